@@ -1,0 +1,48 @@
+-- A buffer that carries an image: a look at its words finds what a look at the image finds.
+use Prim.Native.Nat.{ℕ, _+_, _<_}
+use native.Mathlib.Omega.{arith}
+use mathlib.Core.Path.{_≡_, refl}
+use mathlib.Core.Bool.{Bool, true, false, _&&_}
+use mathlib.Core.List.{List}
+use lib.Dec.{ltb}
+use lib.ListN.{length, getD}
+use Rattle.location.specs.Location.{dataOf, writtenOf, goodOf}
+use Rattle.orders.specs.Orders.{sizeOf, wrapOf}
+use Rattle.orders.specs.declared.Size.{Size}
+use Rattle.orders.specs.declared.Size.the-variants.{K4, K8}
+use Rattle.orders.specs.declared.Mode.{Mode}
+use Rattle.look.specs.Look.{aheadOf, groupBy, pairOf, wordsGroup, imageGroup, lookOf}
+
+-- the word of one location of an image: its byte, good and written, or a word that is not written
+pub record Location (word b : ℕ) (inside : Bool) : Type 0 where
+  pub written : writtenOf word ≡ inside
+  pub good : inside ≡ true → goodOf word ≡ true
+  pub byte : inside ≡ true → dataOf word ≡ b
+
+-- 01: "An image is L bytes, written from address 0; all else is unwritten."
+abbrev pub Carries : List ℕ → List ℕ → Size → Type 0
+Carries words image s = (a : ℕ) → a < sizeOf s → Location (getD words a 0) (getD image a 0) (ltb a (length image))
+
+wrapped : (s : Size) (a : ℕ) → wrapOf s a < sizeOf s
+wrapped K4 a = omega arith
+wrapped K8 a = omega arith
+
+-- two locations of an image make its group
+together : (inside₁ inside₂ : Bool) {w₁ w₂ b₁ b₂ : ℕ} → Location w₁ b₁ inside₁ → Location w₂ b₂ inside₂ → (a₁ a₂ : ℕ)
+    → pairOf w₁ w₂ a₁ a₂ ≡ groupBy (inside₁ && inside₂) true true a₁ a₂ b₁ b₂
+together true true l₁ l₂ a₁ a₂ =
+    simp (l₁ .written, l₂ .written, l₁ .good refl, l₂ .good refl, l₁ .byte refl, l₂ .byte refl)
+together true false l₁ l₂ a₁ a₂ = simp (l₁ .written, l₂ .written)
+together false true l₁ l₂ a₁ a₂ = simp (l₁ .written)
+together false false l₁ l₂ a₁ a₂ = simp (l₁ .written)
+
+module _ (words image : List ℕ) (s : Size) (carries : Carries words image s) where
+  pub same-group : (a : ℕ) → wordsGroup words s a ≡ imageGroup image s a
+  unfolding wordsGroup imageGroup
+  same-group a =
+      together (ltb (wrapOf s a) (length image)) (ltb (aheadOf s a 1) (length image)) (carries (wrapOf s a) (wrapped s a))
+      (carries (aheadOf s a 1) (wrapped s (wrapOf s a + 1))) (wrapOf s a) (aheadOf s a 1)
+
+  pub same-look : (a : ℕ) (m : Mode) → lookOf (wordsGroup words s) s a m ≡ lookOf (imageGroup image s) s a m
+  unfolding lookOf
+  same-look a m = rw (same-group a, same-group (aheadOf s a 2))

@@ -1,0 +1,117 @@
+-- One step of regeneration over the words of a buffer (01, "One step of regeneration"): what stands at a place, the faults in their
+-- order, and where the step goes. The device and the validator share it.
+use Prim.Native.Nat.{ℕ, _+_, _*_, _%_}
+use mathlib.Core.Bool.{Bool, true, false, cond, _&&_}
+use mathlib.Core.List.{List}
+use lib.Dec.{eqb, ltb}
+use lib.ListN.{length, getD}
+use Rattle.location.specs.Location.{dataOf, writtenOf, goodOf}
+use Rattle.orders.specs.Orders.{sizeOf, wrapOf, orderOf}
+use Rattle.orders.specs.declared.Size.{Size}
+use Rattle.orders.specs.declared.Mode.{Mode}
+use Rattle.orders.specs.declared.Mode.the-variants.{Idle, Point, Vector, IncrementalPoint, IncrementalVector, Basic, Large}
+use Rattle.orders.specs.declared.Follows.{Follows}
+use Rattle.orders.specs.declared.Follows.the-variants as follows
+use Rattle.orders.specs.declared.Found.{Found}
+use Rattle.orders.specs.declared.Found.the-variants.{Order, Missing}
+use Rattle.look.specs.declared.Group.{Group}
+use Rattle.look.specs.declared.Group.the-variants as group
+use Rattle.look.specs.declared.Fault.{Fault}
+use Rattle.look.specs.declared.Fault.the-variants as fault
+use Rattle.look.specs.declared.Look.{Look}
+use Rattle.look.specs.declared.Look.the-variants as look
+use Rattle.look.specs.declared.Begun.{Begun}
+use Rattle.look.specs.declared.Begun.the-variants as begun
+
+-- "1 a byte to be read is unwritten; 2 the code is in no row; 3 the target is odd; 4 the target is the buffer's size or more;
+-- 5 in point or vector mode, the byte at A+2 is 2A where Y was due"
+abbrev pub faultNumber : Fault → ℕ
+faultNumber fault.Unwritten = 1
+faultNumber fault.NoRow = 2
+faultNumber fault.OddTarget = 3
+faultNumber fault.FarTarget = 4
+faultNumber fault.OrderForY = 5
+
+-- the address k on from A: "Addresses go round at the buffer's size."
+abbrev pub aheadOf : Size → ℕ → ℕ → ℕ
+aheadOf s a k = wrapOf s (wrapOf s a + k)
+
+-- A group of two locations. "Each group of bytes is tested for 1 before its bytes are looked at. For the device, parity of a group is
+-- tested after fault 1, lowest place first; bad parity stops with Data Check at that byte"
+abbrev pub groupBy : Bool → Bool → Bool → ℕ → ℕ → ℕ → ℕ → Group
+groupBy written good₁ good₂ a₁ a₂ b₁ b₂ =
+    cond written (cond good₁ (cond good₂ (group.Bytes b₁ b₂) (group.Bad a₂)) (group.Bad a₁)) group.Unwritten
+
+-- the words w and v at the addresses a and b
+abbrev pub pairOf : ℕ → ℕ → ℕ → ℕ → Group
+pairOf w v a b = groupBy (writtenOf w && writtenOf v) (goodOf w) (goodOf v) a b (dataOf w) (dataOf v)
+
+-- the group at A in a buffer's words
+unfoldable pub wordsGroup : List ℕ → Size → ℕ → Group
+wordsGroup words s a = pairOf (getD words (wrapOf s a) 0) (getD words (aheadOf s a 1) 0) (wrapOf s a) (aheadOf s a 1)
+
+-- the group at A in an image: "An image is L bytes, written from address 0; all else is unwritten."
+unfoldable pub imageGroup : List ℕ → Size → ℕ → Group
+imageGroup image s a =
+    groupBy (ltb (wrapOf s a) (length image) && ltb (aheadOf s a 1) (length image)) true true (wrapOf s a) (aheadOf s a 1)
+    (getD image (wrapOf s a) 0) (getD image (aheadOf s a 1) 0)
+
+-- what follows an order of length n: the step is done, or wants the next group
+abbrev pub orderBy : Size → ℕ → ℕ → Follows → Begun
+orderBy s a n (follows.Enter m) = begun.Done (look.Enter m (aheadOf s a n))
+orderBy s a n follows.Pass = begun.Done (look.Pass (aheadOf s a n))
+orderBy s a n follows.End = begun.Done (look.End (aheadOf s a n))
+orderBy s a n follows.Timer = begun.Done (look.Timer (aheadOf s a n))
+orderBy s a n (follows.SetPen p) = begun.Done (look.SetPen p (aheadOf s a n))
+orderBy s a n follows.Transfer = begun.Target false (aheadOf s a n)
+orderBy s a n follows.NoDetect = begun.Target true (aheadOf s a n)
+
+-- "2 the code is in no row"
+abbrev pub foundBy : Size → ℕ → Found → Begun
+foundBy s a Missing = begun.Done (look.Fault fault.NoRow)
+foundBy s a (Order r) = orderBy s a (r .length) (r .follows)
+
+-- "No order: idle, incremental and character modes take the word and go to A+2. Point and vector read A+2 and A+3 too and go to A+4."
+abbrev pub dataBy : Size → ℕ → ℕ → ℕ → Mode → Begun
+dataBy s a b₁ b₂ Idle = begun.Done (look.Two b₁ b₂ (aheadOf s a 2))
+dataBy s a b₁ b₂ Point = begun.Coordinate b₁ b₂ (aheadOf s a 4)
+dataBy s a b₁ b₂ Vector = begun.Coordinate b₁ b₂ (aheadOf s a 4)
+dataBy s a b₁ b₂ IncrementalPoint = begun.Done (look.Two b₁ b₂ (aheadOf s a 2))
+dataBy s a b₁ b₂ IncrementalVector = begun.Done (look.Two b₁ b₂ (aheadOf s a 2))
+dataBy s a b₁ b₂ Basic = begun.Done (look.Two b₁ b₂ (aheadOf s a 2))
+dataBy s a b₁ b₂ Large = begun.Done (look.Two b₁ b₂ (aheadOf s a 2))
+
+-- "Read A and A+1. If the byte at A is 2A, this is an order: A+1 is its code."
+abbrev pub firstBy : Size → ℕ → Mode → Group → Begun
+firstBy s a m group.Unwritten = begun.Done (look.Fault fault.Unwritten)
+firstBy s a m (group.Bad at) = begun.Done (look.Check at)
+firstBy s a m (group.Bytes b₁ b₂) = cond (eqb b₁ 0x2A) (foundBy s a (orderOf b₂)) (dataBy s a b₁ b₂ m)
+
+-- "the target is checked even where the transfer isn't taken. Then the place is the target (idle), or A+4 (idle) for a transfer not taken."
+abbrev pub targetBy : Size → Bool → ℕ → ℕ → Look
+targetBy s may next t =
+    cond (eqb (t % 2) 1) (look.Fault fault.OddTarget)
+    (cond (ltb t (sizeOf s)) (cond may (look.Either t next) (look.Jump t)) (look.Fault fault.FarTarget))
+
+-- a transfer's second group, "an address, high byte first"
+abbrev pub targetIn : Size → Bool → ℕ → Group → Look
+targetIn s may next group.Unwritten = look.Fault fault.Unwritten
+targetIn s may next (group.Bad at) = look.Check at
+targetIn s may next (group.Bytes b₃ b₄) = targetBy s may next (b₃ * 0x100 + b₄)
+
+-- a coordinate's second group, where Y is due
+abbrev pub coordinateIn : ℕ → ℕ → ℕ → Group → Look
+coordinateIn b₁ b₂ next group.Unwritten = look.Fault fault.Unwritten
+coordinateIn b₁ b₂ next (group.Bad at) = look.Check at
+coordinateIn b₁ b₂ next (group.Bytes b₃ b₄) =
+    cond (eqb b₃ 0x2A) (look.Fault fault.OrderForY) (look.Four b₁ b₂ b₃ b₄ next)
+
+-- the second group, where it is wanted
+abbrev pub secondBy : Size → Begun → Group → Look
+secondBy s (begun.Done l) g = l
+secondBy s (begun.Target may next) g = targetIn s may next g
+secondBy s (begun.Coordinate b₁ b₂ next) g = coordinateIn b₁ b₂ next g
+
+-- one look: at the group at A in a mode, and at the one at A+2 where it is wanted
+unfoldable pub lookOf : (ℕ → Group) → Size → ℕ → Mode → Look
+lookOf fetch s a m = secondBy s (firstBy s a m (fetch a)) (fetch (aheadOf s a 2))

@@ -1,0 +1,215 @@
+// The orders of a display program: the constant table of their rows and the look-up by code, with the modes that they
+// enter, the sizes of a buffer and the wrap of an address.
+//
+// The contracts cite `specs/Orders.antt`; `specs/Rows.antt` proves the table's rule.
+mod by_code;
+
+ghost use mathlib.Core.Path.{_≡_};
+ghost use Prim.Native.Nat.{_<_, _≤_};
+ghost use Rattle.orders.specs.Orders.{sizeOf, wrapOf, modeNumber, orderOf};
+
+// The locations of a buffer: 4,096 or 8,192.
+pub enum Size {
+    K4,
+    K8,
+}
+
+// What data mean where a step finds no order.
+pub enum Mode {
+    Idle,
+    Point,
+    Vector,
+    IncrementalPoint,
+    IncrementalVector,
+    Basic,
+    Large,
+}
+
+// When the light pen's detects count.
+pub enum PenMode {
+    Normal,
+    Disabled,
+    NoSwitch,
+}
+
+// What follows an order.
+pub enum Follows {
+    // Data of a mode.
+    Enter(Mode),
+    // Nothing: a no-op.
+    Pass,
+    // The end of the sequence.
+    End,
+    // The regeneration timer.
+    Timer,
+    // A mode of the pen.
+    SetPen(PenMode),
+    // An address that is gone to.
+    Transfer,
+    // An address that is gone to where there was no detect.
+    NoDetect,
+}
+
+// An order's row: its code, its length in bytes, and what follows.
+pub struct Row {
+    pub code: u8,
+    pub length: u8,
+    pub follows: Follows,
+}
+
+// The row of a code, if there is one.
+pub enum Found {
+    Order(Row),
+    Missing,
+}
+
+// 000 p.24, Table 4, with the codes of its notes 4 and 5.
+const TABLE: [Row; 20] = [
+    Row {
+        code: 0x00,
+        length: 2,
+        follows: Follows::Enter(Mode::Point),
+    },
+    Row {
+        code: 0x02,
+        length: 2,
+        follows: Follows::Enter(Mode::Vector),
+    },
+    Row {
+        code: 0x04,
+        length: 2,
+        follows: Follows::Enter(Mode::IncrementalPoint),
+    },
+    Row {
+        code: 0x05,
+        length: 2,
+        follows: Follows::Enter(Mode::IncrementalVector),
+    },
+    Row {
+        code: 0x40,
+        length: 2,
+        follows: Follows::Enter(Mode::Basic),
+    },
+    Row {
+        code: 0x41,
+        length: 2,
+        follows: Follows::Enter(Mode::Large),
+    },
+    Row {
+        code: 0x44,
+        length: 2,
+        follows: Follows::Enter(Mode::Basic),
+    },
+    Row {
+        code: 0x45,
+        length: 2,
+        follows: Follows::Enter(Mode::Large),
+    },
+    Row {
+        code: 0x50,
+        length: 2,
+        follows: Follows::Enter(Mode::Basic),
+    },
+    Row {
+        code: 0x51,
+        length: 2,
+        follows: Follows::Enter(Mode::Large),
+    },
+    Row {
+        code: 0x52,
+        length: 2,
+        follows: Follows::Enter(Mode::Basic),
+    },
+    Row {
+        code: 0x80,
+        length: 2,
+        follows: Follows::Pass,
+    },
+    Row {
+        code: 0x81,
+        length: 2,
+        follows: Follows::End,
+    },
+    Row {
+        code: 0x82,
+        length: 2,
+        follows: Follows::Timer,
+    },
+    Row {
+        code: 0x84,
+        length: 2,
+        follows: Follows::SetPen(PenMode::Normal),
+    },
+    Row {
+        code: 0x85,
+        length: 2,
+        follows: Follows::SetPen(PenMode::Disabled),
+    },
+    Row {
+        code: 0x86,
+        length: 2,
+        follows: Follows::SetPen(PenMode::NoSwitch),
+    },
+    Row {
+        code: 0xC0,
+        length: 4,
+        follows: Follows::Pass,
+    },
+    Row {
+        code: 0xFD,
+        length: 4,
+        follows: Follows::NoDetect,
+    },
+    Row {
+        code: 0xFF,
+        length: 4,
+        follows: Follows::Transfer,
+    },
+];
+
+// How many locations a buffer has.
+pub fn size_of(size: Size) -> usize
+    ensures { λ r. ⌜ (r ≡ sizeOf size) × (r ≤ 8192) ⌝ }
+{
+    match size {
+        Size::K4 => 4096,
+        Size::K8 => 8192,
+    }
+}
+
+// The address where the buffer goes round.
+pub fn wrap(size: Size, address: usize) -> usize
+    ensures { λ r. ⌜ (r ≡ wrapOf size address) × (r < 8192) ⌝ }
+{
+    match size {
+        Size::K4 => address % 4096,
+        Size::K8 => address % 8192,
+    }
+}
+
+// A mode's number.
+pub fn mode_number(mode: Mode) -> usize
+    ensures { λ r. ⌜ (r ≡ modeNumber mode) × (r < 7) ⌝ }
+{
+    match mode {
+        Mode::Idle => 0,
+        Mode::Point => 1,
+        Mode::Vector => 2,
+        Mode::IncrementalPoint => 3,
+        Mode::IncrementalVector => 4,
+        Mode::Basic => 5,
+        Mode::Large => 6,
+    }
+}
+
+// The row of the table that has the code.
+pub fn order_of(code: u8) -> Found
+    ensures { λ r. ⌜ r ≡ orderOf code ⌝ }
+{
+    let at = by_code::row_of(code);
+    if at < 20 {
+        Found::Order(TABLE[at])
+    } else {
+        Found::Missing
+    }
+}
