@@ -1,0 +1,86 @@
+-- What writes, reads and the cursor commands do to a buffer's words (01, "Status, sense and commands"; 000 p.18 to 21).
+use Prim.Native.Nat.{ℕ, suc, _+_, _-_, _%_}
+use mathlib.Core.Bool.{Bool, true, false, cond, not, _&&_}
+use mathlib.Core.List.{List, [], _∷_}
+use lib.Dec.{eqb}
+use lib.ListN.{getD, set}
+use Rattle.location.specs.Location.{dataOf, cursorOf, writtenOf, goodOf, wordOf}
+use Rattle.orders.specs.Orders.{wrapOf}
+use Rattle.orders.specs.declared.Size.{Size}
+use Rattle.buffer.specs.declared.Read.{Read}
+
+-- "step through locations from the address register and go round from the last to 0"
+abbrev pub nextOf : Size → ℕ → ℕ
+nextOf s a = wrapOf s (a + 1)
+
+-- the words after bytes are written from an address on: each "sets written" and clears C (000 p.18)
+unfoldable pub writtenFrom : Size → ℕ → List ℕ → List ℕ → List ℕ
+writtenFrom s a [] words = words
+writtenFrom s a (b ∷ bs) words = writtenFrom s (nextOf s a) bs (set words a (wordOf b false true))
+
+-- the address behind the last byte
+unfoldable pub behind : Size → ℕ → List ℕ → ℕ
+behind s a [] = a
+behind s a (b ∷ bs) = behind s (nextOf s a) bs
+
+-- Write Buffer at an address
+abbrev pub wordsWritten : Size → ℕ → List ℕ → List ℕ → List ℕ
+wordsWritten s a bytes words = writtenFrom s (wrapOf s a) bytes words
+
+abbrev pub addressWritten : Size → ℕ → List ℕ → ℕ
+addressWritten s a bytes = behind s (wrapOf s a) bytes
+
+-- the byte that a read gives of a word: where it seeks the cursor, 1A in place of a location with C (000 p.20)
+abbrev pub givenOf : Bool → ℕ → ℕ
+givenOf seek w = cond (seek && cursorOf w) 0x1A (dataOf w)
+
+-- whether a read goes on behind a word: not at the cursor that it seeks, and not at bad parity
+abbrev pub goesOn : Bool → ℕ → Bool
+goesOn seek w = goodOf w && not (seek && cursorOf w)
+
+-- a read that ends at the word w at a: "A read that meets bad parity gives that byte, steps past it and ends"; at the cursor it stops there
+abbrev pub endedAt : Size → ℕ → ℕ → ℕ → Read
+endedAt s n a w = record { count = n; address = cond (goodOf w) a (nextOf s a); good = goodOf w }
+
+-- the room after a read from an address on: "A read's count is the room lent", and "bytes not given stay"
+unfoldable pub givenFrom : List ℕ → Size → Bool → ℕ → List ℕ → List ℕ
+givenFrom words s seek a [] = []
+givenFrom words s seek a (x ∷ room) =
+    givenOf seek (getD words a 0) ∷ cond (goesOn seek (getD words a 0)) (givenFrom words s seek (nextOf s a) room) room
+
+-- how a read from an address on ends, with n bytes given before
+unfoldable pub readFrom : List ℕ → Size → Bool → ℕ → ℕ → List ℕ → Read
+readFrom words s seek a n [] = record { count = n; address = a; good = true }
+readFrom words s seek a n (x ∷ room) =
+    cond (goesOn seek (getD words a 0)) (readFrom words s seek (nextOf s a) (n + 1) room) (endedAt s (n + 1) a (getD words a 0))
+
+-- Read Buffer, and Read Cursor, which seeks the cursor
+abbrev pub roomRead : List ℕ → Size → Bool → ℕ → List ℕ → List ℕ
+roomRead words s seek a room = givenFrom words s seek (wrapOf s a) room
+
+abbrev pub readOf : List ℕ → Size → Bool → ℕ → List ℕ → Read
+readOf words s seek a room = readFrom words s seek (wrapOf s a) 0 room
+
+-- a word with its cursor bit set or cleared: "cursor commands don't" set written
+abbrev pub cursorSet : Bool → ℕ → ℕ
+cursorSet on w = wordOf (dataOf w) on (writtenOf w)
+
+-- the other location of an even-odd pair
+abbrev pub otherOf : ℕ → ℕ
+otherOf a = cond (eqb (a % 2) 0) (a + 1) (a - 1)
+
+-- the words with the cursor bit at a set or cleared
+abbrev pub cursorAt : Bool → ℕ → List ℕ → List ℕ
+cursorAt on a words = set words a (cursorSet on (getD words a 0))
+
+-- Remove Cursor (000 p.21)
+abbrev pub cursorRemoved : Size → ℕ → List ℕ → List ℕ
+cursorRemoved s a words = cursorAt false (wrapOf s a) words
+
+-- the words without a cursor at a; where there is none nothing is stored
+unfoldable pub cursorCleared : ℕ → List ℕ → List ℕ
+cursorCleared a words = cond (cursorOf (getD words a 0)) (cursorAt false a words) words
+
+-- Insert Cursor: one location of a pair has C (000 p.21, note 3)
+unfoldable pub cursorInserted : Size → ℕ → List ℕ → List ℕ
+cursorInserted s a words = cursorAt true (wrapOf s a) (cursorCleared (otherOf (wrapOf s a)) words)

@@ -1,0 +1,81 @@
+-- The device: what it holds, what a fresh one is, and what loading a dump and moving the pen's switch make of it
+-- (01, "Locations and the device").
+use Prim.Native.Nat.{ℕ, _-_, _/_}
+use mathlib.Core.Bool.{Bool, true, false, cond, _&&_}
+use mathlib.Core.List.{List, [], _∷_, _++_}
+use lib.Dec.{eqb}
+use lib.ListN.{length, replicate}
+use Rattle.location.specs.Location.{freshWord, properOf}
+use Rattle.orders.specs.Orders.{sizeOf}
+use Rattle.orders.specs.declared.Size.{Size}
+use Rattle.orders.specs.declared.Size.the-variants.{K4, K8}
+use Rattle.orders.specs.declared.Mode.{Mode}
+use Rattle.orders.specs.declared.Mode.the-variants.{Idle}
+use Rattle.refusals.specs.declared.Refusal.{Refusal}
+use Rattle.refusals.specs.declared.Refusal.the-variants.{WrongSize, UnusedBit, WrongCount}
+use Rattle.beam.specs.declared.Beam.{Beam}
+use Rattle.pen.specs.Pen.{fresh, switched}
+use Rattle.pen.specs.declared.Pen.{Pen}
+use Rattle.device.specs.declared.State.{State}
+use Rattle.device.specs.declared.Sense.{Sense}
+use Rattle.device.specs.declared.Device.{Device}
+use Rattle.device.specs.declared.Sized.{Sized}
+use Rattle.device.specs.declared.Sized.the-variants as sized
+use Rattle.device.specs.declared.Answer.{Answer}
+use Rattle.device.specs.declared.Answer.the-variants as answer
+use Rattle.device.specs.declared.Loaded.{Loaded}
+
+-- "stopped at address 0, idle, beam at 0,0, pen mode normal, switch open"
+abbrev pub freshState : Size → State
+freshState s = record { size = s; address = 0; mode = Idle; running = false; beam = record { x = 0; y = 0 }; pen = fresh }
+
+-- "no sense": no bit stands, and none was given
+abbrev pub noSense : Sense
+noSense = record { reject = false; check = false; detect = false; ended = false; given = false }
+
+-- a fresh device but for its words
+abbrev pub freshWith : Size → List ℕ → Device
+freshWith s words = record { words = words; state = freshState s; status = 0; sense = noSense }
+
+-- "A fresh device has all locations zero but for P = 1"
+abbrev pub freshOf : Size → Device
+freshOf s = freshWith s (replicate 8192 freshWord)
+
+-- "size is neither 4,096 nor 8,192" is refusal 1
+abbrev pub sizedOf : ℕ → Sized
+sizedOf n = cond (eqb n 4096) (sized.Of K4) (cond (eqb n 8192) (sized.Of K8) (sized.Refused WrongSize))
+
+-- no word of a dump has an unused bit set
+unfoldable pub allProper : List ℕ → Bool
+allProper [] = true
+allProper (w ∷ ws) = properOf w && allProper ws
+
+-- "A dump is a list of such words for the whole buffer"; "a 4,096 unit never uses the upper half"
+unfoldable pub dumpWords : List ℕ → List ℕ
+dumpWords dump = dump ++ replicate (8192 - length dump) freshWord
+
+abbrev pub refusedBy : Device → Refusal → Loaded
+refusedBy d r = record { device = d; answer = answer.Refused r }
+
+-- "loading one gives a fresh device with these words, bad parity included"; refused "1, 10, 9 for dumps"
+abbrev pub loadedBy : Device → List ℕ → Sized → Loaded
+loadedBy d dump (sized.Refused r) = refusedBy d r
+loadedBy d dump (sized.Of s) =
+    cond (eqb (length dump) (sizeOf s))
+    (cond (allProper dump) (record { device = freshWith s (dumpWords dump); answer = answer.Done }) (refusedBy d UnusedBit))
+    (refusedBy d WrongCount)
+
+unfoldable pub loadOf : Device → ℕ → List ℕ → Loaded
+loadOf d size dump = loadedBy d dump (sizedOf size)
+
+-- a state with another pen
+abbrev pub withPen : State → Pen → State
+withPen s p = record { size = s .size; address = s .address; mode = s .mode; running = s .running; beam = s .beam; pen = p }
+
+-- a device with another state
+abbrev pub withState : Device → State → Device
+withState d s = record { words = d .words; state = s; status = d .status; sense = d .sense }
+
+-- "Opening or closing the switch is a call; a repeat changes nothing."
+unfoldable pub switchedOf : Device → Bool → Device
+switchedOf d closed = withState d (withPen (d .state) (switched (d .state .pen) closed))
