@@ -1,9 +1,9 @@
 -- 01's measured cases of coordinates, increments and spacings, one table over the definitions; and that Read XY's bytes are the beam's coordinates.
-use Prim.Native.Nat.{ℕ, _-_, _%_}
+use Prim.Native.Nat.{ℕ, _-_}
 use mathlib.Core.Path.{_≡_, refl}
 use native.Mathlib.Omega.{arith}
 use Rattle.beam.specs.declared.CharacterSize.the-variants.{Basic, Large}
-use Rattle.beam.specs.Beam.{tenBits, beamAt, absolute, increment, across, lineBelow, newLine, afterCharacter, highByte, lowByte}
+use Rattle.beam.specs.Beam.{tenBits, beamAt, absolute, increment, lineBelow, newLine, afterCharacter, highByte, lowByte}
 
 pub record Starred : Type 0 where
   pub x-0003 : absolute 0x00 0x03 ≡ 0

@@ -1,40 +1,28 @@
 use borrow.Author.Tests.{le-leb, lt-leb}
-use Rattle.beam.specs.Beam.{afterCharacter}
 use borrow.Author.Needs.{needs}
+use Rattle.beam.specs.Beam.{afterCharacter}
 use Rattle.beam.proofs.after_character.Statement.{statement}
 use Rattle.beam.proofs.after_character.Tie as tie
-use Rattle.beam.proofs.after_character.Reads as reads
-use Rattle.beam.proofs.after_character.Lts as lts
-use Rattle.beam.proofs.across_of.Reads as across-of-reads
-use Rattle.beam.proofs.new_line.Reads as new-line-reads
-use Rattle.beam.proofs.ten_bits.Reads as ten-bits-reads
 
--- src/lib.rt:134:13
 ten-bits-requires : tie.Need-ten-bits-requires
 ten-bits-requires c κs = search needs
 
--- src/lib.rt:134:32
 across-of-requires : tie.Need-across-of-requires
 across-of-requires c κs = search needs
 
--- src/lib.rt:134:13
 add-x : tie.Need-add-x
 add-x c = search needs
 
--- src/lib.rt:138:16
 ten-bits-requires-2 : tie.Need-ten-bits-requires-2
 ten-bits-requires-2 c κs = search needs
 
--- src/lib.rt:141:9
 new-line-requires : tie.Need-new-line-requires
 new-line-requires c κs = search needs
 
--- src/lib.rt:131:1
 returns : tie.Need-returns
 unfolding afterCharacter
 returns c = simp (← c .before .before .before .ten-bits .ensures .0, ← c .before .before .across-of .ensures .0, ← c .ten-bits2 .ensures .0, le-leb _ _ (c .before .if1 .taken))
 
--- src/lib.rt:131:1
 returns-2 : tie.Need-returns-2
 unfolding afterCharacter
 returns-2 c = simp (← c .before .before .before .ten-bits .ensures .0, ← c .before .before .across-of .ensures .0, lt-leb _ _ (c .before .if1 .left)) (c .new-line .ensures)

@@ -1,11 +1,8 @@
-use Rattle.beam.specs.Beam.{blankedPlace}
 use borrow.Author.Needs.{needs}
+use Rattle.beam.specs.Beam.{blankedPlace}
 use Rattle.beam.proofs.blanked_place.Statement.{statement}
 use Rattle.beam.proofs.blanked_place.Tie as tie
-use Rattle.beam.proofs.blanked_place.Reads as reads
-use Rattle.beam.proofs.blanked_place.Lts as lts
 
--- src/lib.rt:52:1
 returns : tie.Need-returns
 unfolding blankedPlace
 returns c = search needs

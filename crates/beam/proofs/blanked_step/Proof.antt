@@ -1,11 +1,8 @@
-use Rattle.beam.specs.Beam.{blankedStep}
 use borrow.Author.Needs.{needs}
+use Rattle.beam.specs.Beam.{blankedStep}
 use Rattle.beam.proofs.blanked_step.Statement.{statement}
 use Rattle.beam.proofs.blanked_step.Tie as tie
-use Rattle.beam.proofs.blanked_step.Reads as reads
-use Rattle.beam.proofs.blanked_step.Lts as lts
 
--- src/lib.rt:87:1
 returns : tie.Need-returns
 unfolding blankedStep
 returns c = search needs

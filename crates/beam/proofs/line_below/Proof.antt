@@ -1,16 +1,12 @@
-use Rattle.beam.specs.Beam.{lineBelow}
 use borrow.Author.Tests.{le-leb, lt-leb}
+use Rattle.beam.specs.Beam.{lineBelow}
 use Rattle.beam.proofs.line_below.Statement.{statement}
 use Rattle.beam.proofs.line_below.Tie as tie
-use Rattle.beam.proofs.line_below.Reads as reads
-use Rattle.beam.proofs.line_below.Lts as lts
 
--- src/lib.rt:114:1
 returns : tie.Need-returns
 unfolding lineBelow
 returns c = simp (le-leb _ _ (c .if1 .taken))
 
--- src/lib.rt:114:1
 returns-2 : tie.Need-returns-2
 unfolding lineBelow
 returns-2 c = simp (lt-leb _ _ (c .if1 .left))

@@ -1,43 +1,31 @@
-use Rattle.pen.specs.Pen.{detected}
 use borrow.Author.Needs.{needs}
+use Rattle.pen.specs.Pen.{detected}
 use Rattle.pen.proofs.after_detect.Statement.{statement}
 use Rattle.pen.proofs.after_detect.Tie as tie
-use Rattle.pen.proofs.after_detect.Reads as reads
-use Rattle.pen.proofs.after_detect.Lts as lts
-use Rattle.pen.proofs.seen_pen.Reads as seen-pen-reads
-use Rattle.pen.proofs.spent_pen.Reads as spent-pen-reads
 
--- src/lib.rt:127:28
 enum-told : tie.Need-enum-told
 enum-told c = search needs
 
--- src/lib.rt:127:28
 spent-pen-requires : tie.Need-spent-pen-requires
 spent-pen-requires c κs = search needs
 
--- src/lib.rt:128:30
 enum-told-2 : tie.Need-enum-told-2
 enum-told-2 c = search needs
 
--- src/lib.rt:129:30
 enum-told-3 : tie.Need-enum-told-3
 enum-told-3 c = search needs
 
--- src/lib.rt:129:30
 seen-pen-requires : tie.Need-seen-pen-requires
 seen-pen-requires c κs = search needs
 
--- src/lib.rt:122:1
 returns : tie.Need-returns
 unfolding detected
 returns c = simp (c .before .enum-told .given .1) (c .spent-pen .ensures)
 
--- src/lib.rt:122:1
 returns-2 : tie.Need-returns-2
 unfolding detected
 returns-2 c = simp (c .enum-told2 .given .1)
 
--- src/lib.rt:122:1
 returns-3 : tie.Need-returns-3
 unfolding detected
 returns-3 c = simp (c .before .enum-told3 .given .1) (c .seen-pen .ensures)

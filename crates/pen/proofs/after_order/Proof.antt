@@ -1,33 +1,25 @@
-use Rattle.pen.specs.Pen.{ordered}
 use borrow.Author.Needs.{needs}
+use Rattle.pen.specs.Pen.{ordered}
 use Rattle.pen.proofs.after_order.Statement.{statement}
 use Rattle.pen.proofs.after_order.Tie as tie
-use Rattle.pen.proofs.after_order.Reads as reads
-use Rattle.pen.proofs.after_order.Lts as lts
 
--- src/lib.rt:37:19
 enum-told : tie.Need-enum-told
 enum-told c = search needs
 
--- src/lib.rt:44:19
 enum-told-2 : tie.Need-enum-told-2
 enum-told-2 c = search needs
 
--- src/lib.rt:51:19
 enum-told-3 : tie.Need-enum-told-3
 enum-told-3 c = search needs
 
--- src/lib.rt:32:1
 returns : tie.Need-returns
 unfolding ordered
 returns c = simp (c .enum-told .given .1)
 
--- src/lib.rt:32:1
 returns-2 : tie.Need-returns-2
 unfolding ordered
 returns-2 c = simp (c .enum-told2 .given .1)
 
--- src/lib.rt:32:1
 returns-3 : tie.Need-returns-3
 unfolding ordered
 returns-3 c = simp (c .enum-told3 .given .1)

@@ -1,35 +1,26 @@
-use Rattle.pen.specs.Pen.{switched}
 use borrow.Author.Needs.{needs}
+use Rattle.pen.specs.Pen.{switched}
 use Rattle.pen.proofs.after_switch.Statement.{statement}
 use Rattle.pen.proofs.after_switch.Tie as tie
-use Rattle.pen.proofs.after_switch.Reads as reads
-use Rattle.pen.proofs.after_switch.Lts as lts
-use Rattle.pen.proofs.turned_to.Reads as turned-to-reads
 
--- src/lib.rt:103:38
 turned-to-requires : tie.Need-turned-to-requires
 turned-to-requires c κs = search needs
 
--- src/lib.rt:105:25
 turned-to-requires-2 : tie.Need-turned-to-requires-2
 turned-to-requires-2 c κs = search needs
 
--- src/lib.rt:99:1
 returns : tie.Need-returns
 unfolding switched
 returns c = simp (c .if2 .taken, c .before .if1 .taken)
 
--- src/lib.rt:99:1
 returns-2 : tie.Need-returns-2
 unfolding switched
 returns-2 c = simp (c .before .if2 .left, c .before .before .if1 .taken) (c .turned-to .ensures)
 
--- src/lib.rt:99:1
 returns-3 : tie.Need-returns-3
 unfolding switched
 returns-3 c = simp (c .before .if3 .taken, c .before .before .if1 .left) (c .turned-to2 .ensures)
 
--- src/lib.rt:99:1
 returns-4 : tie.Need-returns-4
 unfolding switched
 returns-4 c = simp (c .if3 .left, c .before .if1 .left)

@@ -1,38 +1,28 @@
-use Rattle.pen.specs.Pen.{transferred}
 use borrow.Author.Needs.{needs}
+use Rattle.pen.specs.Pen.{transferred}
 use Rattle.pen.proofs.after_transfer.Statement.{statement}
 use Rattle.pen.proofs.after_transfer.Tie as tie
-use Rattle.pen.proofs.after_transfer.Reads as reads
-use Rattle.pen.proofs.after_transfer.Lts as lts
-use Rattle.pen.proofs.spent_pen.Reads as spent-pen-reads
 
--- src/lib.rt:151:28
 enum-told : tie.Need-enum-told
 enum-told c = search needs
 
--- src/lib.rt:151:28
 spent-pen-requires : tie.Need-spent-pen-requires
 spent-pen-requires c κs = search needs
 
--- src/lib.rt:152:30
 enum-told-2 : tie.Need-enum-told-2
 enum-told-2 c = search needs
 
--- src/lib.rt:153:30
 enum-told-3 : tie.Need-enum-told-3
 enum-told-3 c = search needs
 
--- src/lib.rt:146:1
 returns : tie.Need-returns
 unfolding transferred
 returns c = simp (c .before .enum-told .given .1) (c .spent-pen .ensures)
 
--- src/lib.rt:146:1
 returns-2 : tie.Need-returns-2
 unfolding transferred
 returns-2 c = simp (c .enum-told2 .given .1)
 
--- src/lib.rt:146:1
 returns-3 : tie.Need-returns-3
 unfolding transferred
 returns-3 c = simp (c .enum-told3 .given .1)

@@ -1,33 +1,25 @@
-use Rattle.pen.specs.Pen.{detects}
 use borrow.Author.Needs.{needs}
+use Rattle.pen.specs.Pen.{detects}
 use Rattle.pen.proofs.is_detecting.Statement.{statement}
 use Rattle.pen.proofs.is_detecting.Tie as tie
-use Rattle.pen.proofs.is_detecting.Reads as reads
-use Rattle.pen.proofs.is_detecting.Lts as lts
 
--- src/lib.rt:115:28
 enum-told : tie.Need-enum-told
 enum-told c = search needs
 
--- src/lib.rt:116:30
 enum-told-2 : tie.Need-enum-told-2
 enum-told-2 c = search needs
 
--- src/lib.rt:117:30
 enum-told-3 : tie.Need-enum-told-3
 enum-told-3 c = search needs
 
--- src/lib.rt:110:1
 returns : tie.Need-returns
 unfolding detects
 returns c = simp (c .enum-told .given .1)
 
--- src/lib.rt:110:1
 returns-2 : tie.Need-returns-2
 unfolding detects
 returns-2 c = simp (c .enum-told2 .given .1)
 
--- src/lib.rt:110:1
 returns-3 : tie.Need-returns-3
 unfolding detects
 returns-3 c = simp (c .enum-told3 .given .1)

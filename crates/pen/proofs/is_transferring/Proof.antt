@@ -1,33 +1,25 @@
-use Rattle.pen.specs.Pen.{transfers}
 use borrow.Author.Needs.{needs}
+use Rattle.pen.specs.Pen.{transfers}
 use Rattle.pen.proofs.is_transferring.Statement.{statement}
 use Rattle.pen.proofs.is_transferring.Tie as tie
-use Rattle.pen.proofs.is_transferring.Reads as reads
-use Rattle.pen.proofs.is_transferring.Lts as lts
 
--- src/lib.rt:139:28
 enum-told : tie.Need-enum-told
 enum-told c = search needs
 
--- src/lib.rt:140:30
 enum-told-2 : tie.Need-enum-told-2
 enum-told-2 c = search needs
 
--- src/lib.rt:141:30
 enum-told-3 : tie.Need-enum-told-3
 enum-told-3 c = search needs
 
--- src/lib.rt:134:1
 returns : tie.Need-returns
 unfolding transfers
 returns c = simp (c .enum-told .given .1)
 
--- src/lib.rt:134:1
 returns-2 : tie.Need-returns-2
 unfolding transfers
 returns-2 c = simp (c .enum-told2 .given .1)
 
--- src/lib.rt:134:1
 returns-3 : tie.Need-returns-3
 unfolding transfers
 returns-3 c = simp (c .before .enum-told3 .given .1)

@@ -1,11 +1,8 @@
-use Rattle.pen.specs.Pen.{spentPen}
 use borrow.Author.Needs.{needs}
+use Rattle.pen.specs.Pen.{spentPen}
 use Rattle.pen.proofs.spent_pen.Statement.{statement}
 use Rattle.pen.proofs.spent_pen.Tie as tie
-use Rattle.pen.proofs.spent_pen.Reads as reads
-use Rattle.pen.proofs.spent_pen.Lts as lts
 
--- src/lib.rt:158:1
 returns : tie.Need-returns
 unfolding spentPen
 returns c = search needs

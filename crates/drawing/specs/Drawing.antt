@@ -1,0 +1,112 @@
+-- What a step draws, in order, and what a sight makes of it (01, "Drawn item" and "The pen").
+use Prim.Native.Nat.{ℕ, _+_, _-_}
+use mathlib.Core.Bool.{Bool, true, false, cond, not, _&&_, _||_}
+use mathlib.Core.List.{List, [], _∷_, _++_}
+use lib.Dec.{eqb}
+use Rattle.beam.specs.declared.Beam.{Beam}
+use Rattle.beam.specs.declared.CharacterSize.{CharacterSize}
+use Rattle.beam.specs.Beam.{tenBits}
+use Rattle.orders.specs.declared.Size.{Size}
+use Rattle.orders.specs.Orders.{wrapOf}
+use Rattle.items.specs.declared.Item.{Item}
+use Rattle.items.specs.declared.Item.the-variants.{Point, Vector, Character, Cursor}
+use Rattle.motion.specs.Codes.{draws, afterCode}
+use Rattle.motion.specs.declared.Trace.{Trace}
+use Rattle.motion.specs.declared.Trace.the-variants as trace
+use Rattle.motion.specs.declared.Motion.{Motion}
+use Rattle.motion.specs.declared.Motion.the-variants.{Still, To, Codes}
+use Rattle.drawing.specs.declared.Hit.{Hit}
+use Rattle.drawing.specs.declared.Hit.the-variants.{Missed, At}
+
+-- an item, and where the beam stands behind it
+pub record Stroke : Type 0 where
+  pub item : Item
+  pub end : Beam
+
+abbrev pub stroke : Item → Beam → Stroke
+stroke i b = record { item = i; end = b }
+
+-- the address A+1, which goes round as A does
+unfoldable pub nextAddress : Size → ℕ → ℕ
+nextAddress size at = wrapOf size (wrapOf size at + 1)
+
+-- the items by their places; "From equals to except for vectors"
+abbrev pub pointAt : Beam → ℕ → Item
+pointAt to at = Point (tenBits (to .x)) (tenBits (to .y)) at
+
+abbrev pub vectorAt : Beam → Beam → ℕ → Item
+vectorAt from to at = Vector (tenBits (from .x)) (tenBits (from .y)) (tenBits (to .x)) (tenBits (to .y)) at
+
+abbrev pub characterAt : CharacterSize → ℕ → Beam → ℕ → Item
+characterAt size code beam at = Character (tenBits (beam .x)) (tenBits (beam .y)) code size at
+
+-- "A cursor item follows its character or blank, at the same place with the same code and size"
+abbrev pub cursorAt : CharacterSize → ℕ → Beam → ℕ → Item
+cursorAt size code beam at = Cursor (tenBits (beam .x)) (tenBits (beam .y)) code size at
+
+-- what coordinates draw: nothing, a point, or a vector from where the beam stood, also where it has no length
+abbrev pub traceStrokes : Trace → Beam → Beam → ℕ → List Stroke
+traceStrokes trace.Blanked beam to at = []
+traceStrokes trace.Point beam to at = stroke (pointAt to at) to ∷ []
+traceStrokes trace.Vector beam to at = stroke (vectorAt beam to at) to ∷ []
+
+-- a cursor "on null and new line .. is drawn only if 000 or 001 says so": on null it is not displayed (001 4-8), on new line no book shows one
+unfoldable pub showsCursor : ℕ → Bool
+showsCursor code = not (eqb code 0x00 || eqb code 0x15)
+
+-- whether a code that the cursor bit marks shows its cursor
+unfoldable pub hasCursor : Bool → ℕ → Bool
+hasCursor marked code = marked && showsCursor code
+
+-- what a code draws: its character, then its cursor
+unfoldable pub codeStrokes : CharacterSize → ℕ → Bool → Beam → ℕ → List Stroke
+codeStrokes size code marked beam at =
+    cond (draws code) (stroke (characterAt size code beam at) (afterCode size code beam) ∷ []) []
+    ++ cond (hasCursor marked code) (stroke (cursorAt size code beam at) (afterCode size code beam) ∷ []) []
+
+-- two codes, the second where the first leaves the beam
+unfoldable pub codesStrokes : CharacterSize → ℕ → ℕ → Bool → Bool → Beam → ℕ → ℕ → List Stroke
+codesStrokes size a b c0 c1 beam at next =
+    codeStrokes size a c0 beam at ++ codeStrokes size b c1 (afterCode size a beam) next
+
+-- what a step draws, in order: its motion, where the beam stood, the cursor bits of A and A+1, the buffer's size and A
+unfoldable pub strokesOf : Motion → Beam → Bool → Bool → Size → ℕ → List Stroke
+strokesOf Still beam c0 c1 size at = []
+strokesOf (To t to) beam c0 c1 size at = traceStrokes t beam to (wrapOf size at)
+strokesOf (Codes s a b) beam c0 c1 size at = codesStrokes s a b c0 c1 beam (wrapOf size at) (nextAddress size at)
+
+-- what is drawn first, by the coordinates or by the code at A
+unfoldable pub firstStrokes : Motion → Beam → Bool → Size → ℕ → List Stroke
+firstStrokes Still beam c0 size at = []
+firstStrokes (To t to) beam c0 size at = traceStrokes t beam to (wrapOf size at)
+firstStrokes (Codes s a b) beam c0 size at = codeStrokes s a c0 beam (wrapOf size at)
+
+-- "the first or second point, vector or character drawn in that step (cursors not counted ..)"
+abbrev pub counts : Item → Bool
+counts (Point x y at) = true
+counts (Vector x₀ y₀ x y at) = true
+counts (Character x y code size at) = true
+counts (Cursor x y code size at) = false
+
+abbrev pub addressOf : Item → ℕ
+addressOf (Point x y at) = at
+addressOf (Vector x₀ y₀ x y at) = at
+addressOf (Character x y code size at) = at
+addressOf (Cursor x y code size at) = at
+
+-- whether the sight falls on this item, and the sight for those behind it
+abbrev pub falls : ℕ → Item → Bool
+falls sight i = counts i && eqb sight 1
+
+abbrev pub left : ℕ → Item → ℕ
+left sight i = cond (counts i) (sight - 1) sight
+
+-- the items drawn: "It stops regeneration after that item, .. nothing later drawn"; sight 0 falls on none
+unfoldable pub upto : ℕ → List Stroke → List Item
+upto sight [] = []
+upto sight (s ∷ ss) = s .item ∷ cond (falls sight (s .item)) [] (upto (left sight (s .item)) ss)
+
+-- where the sight falls: the item's address, and "the beam at the item's end", behind a character where the next would stand (000 p.20)
+unfoldable pub hitIn : ℕ → List Stroke → Hit
+hitIn sight [] = Missed
+hitIn sight (s ∷ ss) = cond (falls sight (s .item)) (At (addressOf (s .item)) (s .end)) (hitIn (left sight (s .item)) ss)

@@ -1,0 +1,256 @@
+// A run of the unit: advancing and listing, joined step by step until the sights are used up or the unit stops.
+//
+// The contracts cite `specs/Run.antt`.
+use device::Device;
+use device::Sense;
+use device::State;
+use items::Drawn;
+use items::Listing;
+use refusals::Refusal;
+use step::End;
+use step::Stepped;
+ghost use mathlib.Core.Path.{_≡_};
+ghost use mathlib.Core.Bool.{cond, _||_};
+ghost use Prim.Native.Nat.{_+_, _≤_, _/_};
+ghost use lib.ListN.{length};
+ghost use Rattle.run.specs.Run.{isDone, goesOn, endsWith, turnBy, outBy, turnOf, outOf, progress, runFrom, outFrom, allSights, statusAfter, senseJoined, senseAfter, deviceAfter, ranBy, runOf, listOf};
+
+// One turn of a run: a step done and the state and items after it, the last one done, or one that is not done.
+pub enum Turn {
+    On(State, usize),
+    Last(State, usize, End),
+    NotDone(State, End),
+}
+
+// Where a run has come to.
+pub struct Progress {
+    pub state: State,
+    pub steps: usize,
+    pub items: usize,
+    pub end: End,
+}
+
+// What a run answers: the steps done, why it ended and how many items it listed, or a refusal.
+pub enum Outcome {
+    Done(usize, End, usize),
+    Refused(Refusal),
+}
+
+// The device after a run, and the answer.
+pub struct Ran {
+    pub device: Device,
+    pub answer: Outcome,
+}
+
+// Whether the step that ends a run so is done.
+fn is_done(end: End) -> bool
+    ensures { λ r. ⌜ r ≡ isDone end ⌝ }
+{
+    match end {
+        End::SightsUsed => false,
+        End::Fault(_) => false,
+        End::EndOrder => true,
+        End::Detect => true,
+        End::DataCheck => false,
+        End::NoRoom => false,
+        End::NotRunning => false,
+    }
+}
+
+// A step that goes on, if what it draws fits.
+fn goes_on(state: State, next: State, listing: Listing) -> Turn
+    ensures { λ r. ⌜ r ≡ goesOn state next listing ⌝ }
+{
+    match listing {
+        Listing::Full => Turn::NotDone(state, End::NoRoom),
+        Listing::Next(items) => Turn::On(next, items),
+    }
+}
+
+// A step that ends the run, if what it draws fits.
+fn ends_with(state: State, next: State, end: End, listing: Listing) -> Turn
+    ensures { λ r. ⌜ r ≡ endsWith state next end listing ⌝ }
+{
+    match listing {
+        Listing::Full => Turn::NotDone(state, End::NoRoom),
+        Listing::Next(items) => Turn::Last(next, items, end),
+    }
+}
+
+// One turn: a step, and what it draws put into the list.
+fn turn(words: &[u16; 8192], state: State, sight: u8, items: usize, out: &mut [u16]) -> Turn
+    ensures { λ r. ⌜ (r ≡ turnOf (now (words .entry)) state sight items (now (out .entry))) × (now (out .exit) ≡ outOf (now (words .entry)) state sight items (now (out .entry))) ⌝ }
+{
+    let look = step::look_here(words, state);
+    match step::advance(state, look, sight) {
+        Stepped::Goes(next) => {
+            let drawn = step::draw(words, state, look, sight);
+            goes_on(state, next, items::list(out, items, drawn))
+        }
+        Stepped::Stops(next, end) => {
+            if is_done(end) {
+                let drawn = step::draw(words, state, look, sight);
+                ends_with(state, next, end, items::list(out, items, drawn))
+            } else {
+                Turn::NotDone(next, end)
+            }
+        }
+    }
+}
+
+// Steps from a state on, one for each sight.
+fn run_from(words: &[u16; 8192], sights: &[u8], start: State, out: &mut [u16]) -> Progress
+    ensures { λ r. ⌜ (r ≡ runFrom (now (words .entry)) (now (sights .entry)) start 0 0 (now (out .entry))) × (now (out .exit) ≡ outFrom (now (words .entry)) (now (sights .entry)) start 0 (now (out .entry))) ⌝ }
+{
+    let mut state = start;
+    let mut i = 0;
+    let mut items = 0;
+    while i < sights.len() {
+        match turn(words, state, sights[i], items, out) {
+            Turn::NotDone(last, end) => {
+                return Progress {
+                    state: last,
+                    steps: i,
+                    items: items,
+                    end: end,
+                };
+            }
+            Turn::Last(last, listed, end) => {
+                return Progress {
+                    state: last,
+                    steps: i + 1,
+                    items: listed,
+                    end: end,
+                };
+            }
+            Turn::On(next, listed) => {
+                state = next;
+                items = listed;
+                i += 1;
+            }
+        }
+    }
+    Progress {
+        state: state,
+        steps: i,
+        items: items,
+        end: End::SightsUsed,
+    }
+}
+
+// Whether no sight is above 2.
+fn all_sights(sights: &[u8]) -> bool
+    ensures { λ r. ⌜ r ≡ allSights (now (sights .entry)) ⌝ }
+{
+    let mut i = 0;
+    while i < sights.len() {
+        if 2 < sights[i] {
+            return false;
+        }
+        i += 1;
+    }
+    true
+}
+
+// The waiting status after the end of a run.
+fn status_after(end: End, status: u8) -> u8
+    ensures { λ r. ⌜ r ≡ statusAfter end status ⌝ }
+{
+    match end {
+        End::SightsUsed => status,
+        End::Fault(_) => status,
+        End::EndOrder => 0x82,
+        End::Detect => 0x82,
+        End::DataCheck => 0x82,
+        End::NoRoom => status,
+        End::NotRunning => status,
+    }
+}
+
+// Whether one of two holds.
+fn either(a: bool, b: bool) -> bool
+    ensures { λ r. ⌜ r ≡ (a || b) ⌝ }
+{
+    if a { true } else { b }
+}
+
+// A stop's new sense bits with the standing ones.
+fn joined(sense: Sense, check: bool, detect: bool, ended: bool) -> Sense
+    ensures { λ r. ⌜ r ≡ senseJoined sense check detect ended ⌝ }
+{
+    if sense.given {
+        Sense {
+            reject: false,
+            check: check,
+            detect: detect,
+            ended: ended,
+            given: false,
+        }
+    } else {
+        Sense {
+            reject: sense.reject,
+            check: either(sense.check, check),
+            detect: either(sense.detect, detect),
+            ended: either(sense.ended, ended),
+            given: false,
+        }
+    }
+}
+
+// The sense bits after the end of a run.
+fn sense_after(end: End, sense: Sense) -> Sense
+    ensures { λ r. ⌜ r ≡ senseAfter end sense ⌝ }
+{
+    match end {
+        End::SightsUsed => sense,
+        End::Fault(_) => sense,
+        End::EndOrder => joined(sense, false, false, true),
+        End::Detect => joined(sense, false, true, false),
+        End::DataCheck => joined(sense, true, false, false),
+        End::NoRoom => sense,
+        End::NotRunning => sense,
+    }
+}
+
+// The device after a run.
+fn ran_by(mut device: Device, progress: Progress) -> Ran
+    ensures { λ r. ⌜ r ≡ ranBy device progress ⌝ }
+{
+    let end = progress.end;
+    let state = progress.state;
+    let sense = device.sense;
+    device.state = state;
+    device.status = status_after(end, device.status);
+    device.sense = sense_after(end, sense);
+    Ran {
+        device: device,
+        answer: Outcome::Done(progress.steps, end, progress.items),
+    }
+}
+
+// Runs the unit, one step for each sight, and lists what is drawn, eight numbers an item.
+pub fn run(device: Device, sights: &[u8], out: &mut [u16]) -> Ran
+    ensures { λ r. ⌜ (r ≡ runOf device (now (sights .entry)) (now (out .entry))) × (now (out .exit) ≡ listOf device (now (sights .entry)) (now (out .entry))) ⌝ }
+{
+    if !all_sights(sights) {
+        return Ran {
+            device: device,
+            answer: Outcome::Refused(Refusal::UnknownSight),
+        };
+    }
+    let state = device.state;
+    if state.running {
+        let progress = run_from(&device.words, sights, state, out);
+        ran_by(device, progress)
+    } else {
+        ran_by(
+            device,
+            Progress {
+                state: state,
+                steps: 0,
+                items: 0,
+                end: End::NotRunning,
+            },
+        )
+    }
+}

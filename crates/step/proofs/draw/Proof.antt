@@ -1,0 +1,34 @@
+use Rattle.step.specs.Step.{itemsDrawn}
+use borrow.Author.Needs.{needs}
+use Rattle.step.proofs.draw.Statement.{statement}
+use Rattle.step.proofs.draw.Tie as tie
+
+motion-of-requires : tie.Need-motion-of-requires
+motion-of-requires c κs = search needs
+
+cursor-here-requires : tie.Need-cursor-here-requires
+cursor-here-requires c κs = search needs
+
+cursor-next-requires : tie.Need-cursor-next-requires
+cursor-next-requires c κs = search needs
+
+seen-of-requires : tie.Need-seen-of-requires
+seen-of-requires c κs = search needs
+
+drawn-of-requires : tie.Need-drawn-of-requires
+drawn-of-requires c κs = search needs
+
+returns : tie.Need-returns
+unfolding itemsDrawn
+returns c = simp (c .before .seen-of .ensures, c .before .before .cursor-next .ensures, c .before .before .before .cursor-here .ensures, c .before .before .before .before .motion-of .ensures) at (c .drawn-of .ensures .0)
+
+pub draw-spec : {M : Type 1} → statement M
+draw-spec =
+    tie.close
+    (tie.spec
+    motion-of-requires
+    cursor-here-requires
+    cursor-next-requires
+    seen-of-requires
+    drawn-of-requires
+    returns)

@@ -1,0 +1,245 @@
+// One step of a unit that runs: advancing its state and listing what is drawn, each by a call of its own.
+//
+// The contracts cite `specs/Step.antt`.
+use beam::Beam;
+use device::State;
+use drawing::Hit;
+use items::Drawn;
+use look::Fault;
+use look::Look;
+use motion::Motion;
+use orders::Mode;
+use pen::Pen;
+ghost use mathlib.Core.Path.{_≡_};
+ghost use Prim.Native.Nat.{_<_};
+ghost use Rattle.items.specs.Items.{itemsOf};
+ghost use Rattle.step.specs.Step.{endNumber, lookAt, seenOf, at, penned, beamed, stopped, struck, dataBy, eitherBy, advanceBy, hitAt, advanceOf, itemsDrawn, cursorHere, cursorNext};
+
+// Why a run ends.
+pub enum End {
+    // 0: the sights are used up.
+    SightsUsed,
+    // 1 to 5: a fault.
+    Fault(Fault),
+    // 6: End Order Sequence.
+    EndOrder,
+    // 7: a light-pen detect.
+    Detect,
+    // 8: a data check.
+    DataCheck,
+    // 9: the items don't fit.
+    NoRoom,
+    // 10: the unit does not run.
+    NotRunning,
+}
+
+// What a step makes of the state.
+pub enum Stepped {
+    Goes(State),
+    Stops(State, End),
+}
+
+// The number that 01 gives the end of a run.
+pub fn end_number(end: End) -> u8
+    ensures { λ r. ⌜ (r ≡ endNumber end) × (r < 11) ⌝ }
+{
+    match end {
+        End::SightsUsed => 0,
+        End::Fault(fault) => look::fault_number(fault),
+        End::EndOrder => 6,
+        End::Detect => 7,
+        End::DataCheck => 8,
+        End::NoRoom => 9,
+        End::NotRunning => 10,
+    }
+}
+
+// What the pen sees of a sight.
+fn seen_of(pen: Pen, sight: u8) -> u8
+    ensures { λ r. ⌜ r ≡ seenOf pen sight ⌝ }
+{
+    if pen::is_detecting(pen) { sight } else { 0 }
+}
+
+// The state at another address and mode.
+fn at_place(state: State, address: usize, mode: Mode) -> State
+    ensures { λ r. ⌜ r ≡ at state address mode ⌝ }
+{
+    let size = state.size;
+    let beam = state.beam;
+    let pen = state.pen;
+    State {
+        size: size,
+        address: address,
+        mode: mode,
+        running: state.running,
+        beam: beam,
+        pen: pen,
+    }
+}
+
+// The state at another address, idle, with another pen.
+fn with_pen(state: State, address: usize, pen: Pen) -> State
+    ensures { λ r. ⌜ r ≡ penned state address pen ⌝ }
+{
+    let size = state.size;
+    let beam = state.beam;
+    State {
+        size: size,
+        address: address,
+        mode: Mode::Idle,
+        running: state.running,
+        beam: beam,
+        pen: pen,
+    }
+}
+
+// The state at another address with the beam elsewhere.
+fn with_beam(mut state: State, address: usize, beam: Beam) -> State
+    ensures { λ r. ⌜ r ≡ beamed state address beam ⌝ }
+{
+    state.address = address;
+    state.beam = beam;
+    state
+}
+
+// The state stopped at an address in a mode.
+fn stopped_at(state: State, address: usize, mode: Mode) -> State
+    ensures { λ r. ⌜ r ≡ stopped state address mode ⌝ }
+{
+    let mut s = at_place(state, address, mode);
+    s.running = false;
+    s
+}
+
+// The state after a detect.
+fn struck_at(mut state: State, address: usize, beam: Beam) -> State
+    ensures { λ r. ⌜ r ≡ struck state address beam ⌝ }
+{
+    let pen = state.pen;
+    state.address = address;
+    state.running = false;
+    state.beam = beam;
+    state.pen = pen::after_detect(pen);
+    state
+}
+
+// What data make of the state.
+fn data_by(state: State, motion: Motion, next: usize, hit: Hit) -> Stepped
+    ensures { λ r. ⌜ r ≡ dataBy state motion next hit ⌝ }
+{
+    let beam = state.beam;
+    match hit {
+        Hit::Missed => Stepped::Goes(with_beam(state, next, motion::beam_after(motion, beam))),
+        Hit::At(address, end) => Stepped::Stops(struck_at(state, address, end), End::Detect),
+    }
+}
+
+// What a Transfer On No Detect makes of the state.
+fn either_by(state: State, target: usize, next: usize, goes: bool) -> Stepped
+    ensures { λ r. ⌜ r ≡ eitherBy state target next goes ⌝ }
+{
+    let pen = state.pen;
+    if goes {
+        Stepped::Goes(with_pen(state, target, pen::after_transfer(pen)))
+    } else {
+        Stepped::Goes(at_place(state, next, Mode::Idle))
+    }
+}
+
+// What a look makes of the state.
+fn advance_by(state: State, hit: Hit, look: Look) -> Stepped
+    ensures { λ r. ⌜ r ≡ advanceBy state hit look ⌝ }
+{
+    let mode = state.mode;
+    let beam = state.beam;
+    let pen = state.pen;
+    match look {
+        Look::Fault(fault) => {
+            Stepped::Stops(stopped_at(state, state.address, mode), End::Fault(fault))
+        }
+        Look::Check(bad) => Stepped::Stops(stopped_at(state, bad, mode), End::DataCheck),
+        Look::Enter(entered, next) => Stepped::Goes(at_place(state, next, entered)),
+        Look::Pass(next) => Stepped::Goes(at_place(state, next, Mode::Idle)),
+        Look::Timer(next) => Stepped::Goes(with_pen(state, next, pen::after_timer(pen))),
+        Look::SetPen(set, next) => Stepped::Goes(with_pen(state, next, pen::after_order(pen, set))),
+        Look::End(next) => Stepped::Stops(stopped_at(state, next, Mode::Idle), End::EndOrder),
+        Look::Jump(target) => Stepped::Goes(at_place(state, target, Mode::Idle)),
+        Look::Either(target, next) => either_by(state, target, next, pen::is_transferring(pen)),
+        Look::Two(_, _, next) => data_by(state, motion::motion_of(look, mode, beam), next, hit),
+        Look::Four(_, _, _, _, next) => {
+            data_by(state, motion::motion_of(look, mode, beam), next, hit)
+        }
+    }
+}
+
+// The item that what is seen falls on.
+fn hit_at(state: State, look: Look, seen: u8) -> Hit
+    ensures { λ r. ⌜ r ≡ hitAt state look seen ⌝ }
+{
+    let mode = state.mode;
+    let beam = state.beam;
+    let size = state.size;
+    drawing::hit_of(
+        motion::motion_of(look, mode, beam),
+        beam,
+        size,
+        state.address,
+        seen,
+    )
+}
+
+// The look at the place of a state.
+pub fn look_here(words: &[u16; 8192], state: State) -> Look
+    ensures { λ r. ⌜ r ≡ lookAt (now (words .entry)) state ⌝ }
+{
+    let size = state.size;
+    let mode = state.mode;
+    look::look_at(words, size, state.address, mode)
+}
+
+// Advances the state by a step: its look, and what the pen is shown.
+pub fn advance(state: State, look: Look, sight: u8) -> Stepped
+    ensures { λ r. ⌜ r ≡ advanceOf state look sight ⌝ }
+{
+    let pen = state.pen;
+    advance_by(state, hit_at(state, look, seen_of(pen, sight)), look)
+}
+
+// The cursor bit at a state's address.
+fn cursor_here(words: &[u16; 8192], state: State) -> bool
+    ensures { λ r. ⌜ r ≡ cursorHere (now (words .entry)) state ⌝ }
+{
+    let size = state.size;
+    let a = orders::wrap(size, state.address);
+    location::cursor_of(words[a])
+}
+
+// The cursor bit behind a state's address.
+fn cursor_next(words: &[u16; 8192], state: State) -> bool
+    ensures { λ r. ⌜ r ≡ cursorNext (now (words .entry)) state ⌝ }
+{
+    let size = state.size;
+    let here = orders::wrap(size, state.address);
+    let a = orders::wrap(size, here + 1);
+    location::cursor_of(words[a])
+}
+
+// Lists what a step draws: its look, and what the pen is shown.
+pub fn draw(words: &[u16; 8192], state: State, look: Look, sight: u8) -> Drawn
+    ensures { λ r. ⌜ itemsOf r ≡ itemsDrawn (now (words .entry)) state look sight ⌝ }
+{
+    let mode = state.mode;
+    let beam = state.beam;
+    let size = state.size;
+    let pen = state.pen;
+    drawing::drawn_of(
+        motion::motion_of(look, mode, beam),
+        beam,
+        cursor_here(words, state),
+        cursor_next(words, state),
+        size,
+        state.address,
+        seen_of(pen, sight),
+    )
+}
