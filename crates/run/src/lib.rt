@@ -78,7 +78,7 @@ fn ends_with(state: State, next: State, end: End, listing: Listing) -> Turn
 }
 
 // One turn: a step, and what it draws put into the list.
-fn turn(words: &[u16; 8192], state: State, sight: u8, items: usize, out: &mut [u16]) -> Turn
+fn take_turn(words: &[u16; 8192], state: State, sight: u8, items: usize, out: &mut [u16]) -> Turn
     ensures { λ r. ⌜ (r ≡ turnOf (now (words .entry)) state sight items (now (out .entry))) × (now (out .exit) ≡ outOf (now (words .entry)) state sight items (now (out .entry))) ⌝ }
 {
     let look = step::look_here(words, state);
@@ -106,7 +106,7 @@ fn run_from(words: &[u16; 8192], sights: &[u8], start: State, out: &mut [u16]) -
     let mut i = 0;
     let mut items = 0;
     while i < sights.len() {
-        match turn(words, state, sights[i], items, out) {
+        match take_turn(words, state, sights[i], items, out) {
             Turn::NotDone(last, end) => {
                 return Progress {
                     state: last,

@@ -1,0 +1,122 @@
+use borrow.Author.Needs.{needs}
+use Prim.Native.Nat.{ℕ, _≤_, _<_, _-_}
+use native.Mathlib.Omega.{arith}
+use mathlib.Core.Path.{_≡_, refl, sym, _∙_}
+use mathlib.Core.List.{List}
+use lib.ListN.{length, drop}
+use Rattle.device.specs.declared.State.{State}
+use Rattle.run.specs.Run.{runFrom, outFrom}
+use Rattle.run.proofs.Turns.{run-one, list-one, run-all, list-all}
+use Rattle.run.proofs.run_from.Statement.{statement}
+use Rattle.run.proofs.run_from.Tie as tie
+
+-- What is left to run from sight i on gives the whole run's answer and list.
+record Running (words sights out₀ : List ℕ) (s₀ : State) (out : List ℕ) (s : State) (i items : ℕ) : Type 0 where
+  within : i ≤ length sights
+  long : length out ≡ length out₀
+  run-left : runFrom words sights s₀ 0 0 out₀ ≡ runFrom words (drop i sights) s i items out
+  list-left : outFrom words sights s₀ 0 out₀ ≡ outFrom words (drop i sights) s items out
+
+abbrev Inv-loop : tie.InvT-loop
+Inv-loop words sights out₀ state₀ i₀ items₀ out state i items = Running words sights out₀ state₀ out state i items
+
+abbrev μ-loop : tie.MeasureT-loop
+μ-loop words sights out₀ state₀ i₀ items₀ out state i items = length sights - i
+
+loop-holds : tie.Need-loop-holds Inv-loop μ-loop
+loop-holds c = record { within = omega arith; long = refl; run-left = refl; list-left = refl }
+
+shared-slice-read-take-turn : tie.Need-shared-slice-read-take-turn Inv-loop μ-loop
+shared-slice-read-take-turn c = omega arith
+
+take-turn-requires : tie.Need-take-turn-requires Inv-loop μ-loop
+take-turn-requires c κs = search needs
+
+enum-known-last : tie.Need-enum-known-last Inv-loop μ-loop
+enum-known-last c = search needs
+
+same-length : tie.Need-same-length Inv-loop μ-loop
+same-length c = c .before .before .before .before .before .take-turn .kept .1 .1 .1 .1 .0 ∙ c .before .before .before .before .before .before .before .before .before .loop .inv .long
+
+returns : tie.Need-returns Inv-loop μ-loop
+returns c =
+    let at = c .before .before .before .before .before .before .before .before .before in
+    let k = c .before .before .before .before .before .take-turn .ensures in
+    let h : at .loop .i < length (at .before .before .before .args .sights .now) = omega arith in
+    let e = sym (c .before .last .given .1) ∙ k .0 in (
+      sym (at .loop .inv .run-left ∙ run-one _ _ _ _ _ _ _ h _ _ e (k .1)),
+      sym (at .loop .inv .list-left ∙ list-one _ _ _ _ (at .loop .i) _ _ h _ _ e (k .1)),
+    )
+
+enum-known-last-2 : tie.Need-enum-known-last-2 Inv-loop μ-loop
+enum-known-last-2 c = search needs
+
+add-t22 : tie.Need-add-t22 Inv-loop μ-loop
+add-t22 c = omega arith
+
+same-length-2 : tie.Need-same-length-2 Inv-loop μ-loop
+same-length-2 c = c .before .before .before .before .before .take-turn .kept .1 .1 .1 .1 .0 ∙ c .before .before .before .before .before .before .before .before .before .loop .inv .long
+
+returns-2 : tie.Need-returns-2 Inv-loop μ-loop
+returns-2 c =
+    let at = c .before .before .before .before .before .before .before .before .before in
+    let k = c .before .before .before .before .before .take-turn .ensures in
+    let h : at .loop .i < length (at .before .before .before .args .sights .now) = omega arith in
+    let e = sym (c .before .last2 .given .1) ∙ k .0 in (
+      sym (at .loop .inv .run-left ∙ run-one _ _ _ _ _ _ _ h _ _ e (k .1)),
+      sym (at .loop .inv .list-left ∙ list-one _ _ _ _ (at .loop .i) _ _ h _ _ e (k .1)),
+    )
+
+enum-known-next : tie.Need-enum-known-next Inv-loop μ-loop
+enum-known-next c = search needs
+
+add-i : tie.Need-add-i Inv-loop μ-loop
+add-i c = omega arith
+
+loop-less : tie.Need-loop-less Inv-loop μ-loop
+loop-less c = omega arith
+
+loop-again : tie.Need-loop-again Inv-loop μ-loop
+loop-again c =
+    let at = c .before .before .before .before .before .before .before .before .before in
+    let k = c .before .before .before .before .before .take-turn .ensures in
+    let h : at .loop .i < length (at .before .before .before .args .sights .now) = omega arith in
+    let e = sym (c .before .next .given .1) ∙ k .0 in
+    record {
+      within = omega arith;
+      long = c .before .before .before .before .before .take-turn .kept .1 .1 .1 .1 .0 ∙ at .loop .inv .long;
+      run-left = at .loop .inv .run-left ∙ run-one _ _ _ _ _ _ _ h _ _ e (k .1);
+      list-left = at .loop .inv .list-left ∙ list-one _ _ _ _ (at .loop .i) _ _ h _ _ e (k .1);
+    }
+
+same-length-3 : tie.Need-same-length-3 Inv-loop μ-loop
+same-length-3 c = c .before .loop .inv .long
+
+returns-3 : tie.Need-returns-3 Inv-loop μ-loop
+returns-3 c =
+    let at = c .before in
+    let h : length (at .before .before .before .args .sights .now) ≤ at .loop .i = omega arith in
+    (sym (at .loop .inv .run-left ∙ run-all _ _ _ _ _ _ _ h), sym (at .loop .inv .list-left ∙ list-all _ _ _ _ (at .loop .i) _ _ h))
+
+pub run-from-spec : {M : Type 1} → statement M
+run-from-spec =
+    tie.close
+    (tie.spec
+    Inv-loop
+    μ-loop
+    loop-holds
+    shared-slice-read-take-turn
+    take-turn-requires
+    enum-known-last
+    same-length
+    returns
+    enum-known-last-2
+    add-t22
+    same-length-2
+    returns-2
+    enum-known-next
+    add-i
+    loop-less
+    loop-again
+    same-length-3
+    returns-3)
