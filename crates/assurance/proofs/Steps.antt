@@ -1,0 +1,80 @@
+-- One step of a device within the walks of an image that passed: it meets no fault and no bad parity, and stays within the walks.
+use Prim.Native.Nat.{ℕ, suc}
+use mathlib.Core.Path.{_≡_, refl, sym, _∙_, subst, ap}
+use mathlib.Core.Logic.{_⊎_, inl, inr}
+use mathlib.Core.Bool.{Bool, true, false, cond, false≢true}
+use mathlib.Core.List.{List}
+use Rattle.orders.specs.declared.Size.{Size}
+use Rattle.orders.specs.declared.Mode.{Mode}
+use Rattle.orders.specs.declared.Mode.the-variants.{Idle}
+use Rattle.look.specs.Look.{faultNumber, imageGroup, wordsGroup, lookOf}
+use Rattle.look.specs.Loaded.{Carries, same-look}
+use Rattle.look.specs.declared.Look.{Look}
+use Rattle.look.specs.declared.Look.the-variants as look
+use Rattle.pen.specs.Pen.{transfers}
+use Rattle.walks.specs.Places.{place}
+use Rattle.walks.specs.Steps.{Step, Leads, stepBy, stepOf}
+use Rattle.walks.specs.Walks.{Reach, Reached}
+use Rattle.walks.proofs.Looks.{no-check}
+use Rattle.walks.specs.declared.Place.{Place}
+use Rattle.walks.specs.declared.Setup.{Setup}
+use Rattle.drawing.specs.declared.Hit.{Hit}
+use Rattle.drawing.specs.declared.Hit.the-variants as hit
+use Rattle.device.specs.declared.State.{State}
+use Rattle.step.specs.Step.{lookAt, advanceBy, advanceOf, seenOf, hitAt, eitherBy}
+use Rattle.step.specs.declared.Stepped.{Stepped}
+use Rattle.step.specs.declared.Stepped.the-variants as stepped
+use Rattle.assurance.specs.Promise.{Sound, Within}
+
+module _ (image : List ℕ) (size : Size) (start : ℕ) where
+  abbrev su : Setup
+  su = record { size = size }
+
+  -- no walk, however long, meets a fault
+  abbrev pub Clear : Type 0
+  Clear = (k : ℕ) (p : Place) (n : ℕ) → Reach (stepOf image su) (place start Idle) k p → stepOf image su p ≡ Step.faulty n → ⊥
+
+  -- what a step leaves: it goes on within the walks, or stops soundly
+  abbrev pub Kept : Stepped → Type 0
+  Kept (stepped.Goes s) = (s .running ≡ true) × Within image size start s
+  Kept (stepped.Stops s e) = Sound e × Within image size start s
+
+  stops : (s : State) → s .size ≡ size → s .running ≡ false → Within image size start s
+  stops s e r = record { same = e; reached = λ t. absurd (false≢true (sym r ∙ t)) }
+
+  module _ (clear : Clear) (s : State) (runs : s .running ≡ true) (same : s .size ≡ size) (k : ℕ) (here : Reach (stepOf image su) (place start Idle) k (place (s .address) (s .mode))) where
+    -- a place that the step from here leads to is reached
+    onward : (q : Place) → Leads (stepOf image su (place (s .address) (s .mode))) q → Reached (stepOf image su) (place start Idle) q
+    onward q l = (suc k, (place (s .address) (s .mode), here, l))
+
+    goes : (l : Look) → stepOf image su (place (s .address) (s .mode)) ≡ stepBy (s .mode) l → (q : Place) → Leads (stepBy (s .mode) l) q → Reached (stepOf image su) (place start Idle) q
+    goes l e q leads = onward q (subst (λ (t : Step Place). Leads t q) (sym e) leads)
+
+    either-kept : (t next : ℕ) → stepOf image su (place (s .address) (s .mode)) ≡ stepBy (s .mode) (look.Either t next) → (b : Bool) → Kept (eitherBy s t next b)
+    either-kept t next e true = (runs, record { same = same; reached = λ r. goes (look.Either t next) e (place t Idle) (inl refl) })
+    either-kept t next e false = (runs, record { same = same; reached = λ r. goes (look.Either t next) e (place next Idle) (inr refl) })
+
+    kept-by : (h : Hit) (l : Look) → lookOf (imageGroup image size) size (s .address) (s .mode) ≡ l → stepOf image su (place (s .address) (s .mode)) ≡ stepBy (s .mode) l → Kept (advanceBy s h l)
+    kept-by h (look.Fault f) e w = absurd (clear k _ (faultNumber f) here w)
+    kept-by h (look.Check a) e w = absurd (no-check image size (s .address) (s .mode) a e)
+    kept-by h (look.Enter m next) e w = (runs, record { same = same; reached = λ r. goes (look.Enter m next) w (place next m) refl })
+    kept-by h (look.Pass next) e w = (runs, record { same = same; reached = λ r. goes (look.Pass next) w (place next Idle) refl })
+    kept-by h (look.Timer next) e w = (runs, record { same = same; reached = λ r. goes (look.Timer next) w (place next Idle) refl })
+    kept-by h (look.SetPen p next) e w = (runs, record { same = same; reached = λ r. goes (look.SetPen p next) w (place next Idle) refl })
+    kept-by h (look.End next) e w = (tt, stops _ same refl)
+    kept-by h (look.Jump t) e w = (runs, record { same = same; reached = λ r. goes (look.Jump t) w (place t Idle) refl })
+    kept-by h (look.Either t next) e w = either-kept t next w (transfers (s .pen))
+    kept-by hit.Missed (look.Two a b next) e w = (runs, record { same = same; reached = λ r. goes (look.Two a b next) w (place next (s .mode)) refl })
+    kept-by (hit.At a b) (look.Two c d next) e w = (tt, stops _ same refl)
+    kept-by hit.Missed (look.Four a b c d next) e w = (runs, record { same = same; reached = λ r. goes (look.Four a b c d next) w (place next (s .mode)) refl })
+    kept-by (hit.At a b) (look.Four c d f g next) e w = (tt, stops _ same refl)
+
+    -- a step with any sight
+    pub step-kept : (words : List ℕ) → Carries words image size → (sight : ℕ) → Kept (advanceOf s (lookAt words s) sight)
+    unfolding advanceOf stepOf
+    step-kept words carries sight =
+        let l : Look = lookAt words s in
+        let e : lookOf (imageGroup image size) size (s .address) (s .mode) ≡ l =
+        rw same (sym (same-look words image size carries (s .address) (s .mode)))
+        in
+        kept-by (hitAt s l (seenOf (s .pen) sight)) l e (ap (stepBy (s .mode)) e)

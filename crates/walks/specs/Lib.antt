@@ -1,0 +1,4 @@
+pub mod Places
+pub mod Steps
+pub mod Walks
+pub mod Starred
