@@ -1,6 +1,6 @@
 -- 01, "Measured examples": the verdicts marked *, one row each. "start 0, size 4,096 unless said".
-use Prim.Native.Nat.{ℕ}
 use mathlib.Core.List.{List, [], _∷_}
+use Prim.Native.Nat.{ℕ}
 use Rattle.orders.specs.declared.Size.{Size}
 use Rattle.orders.specs.declared.Size.the-variants.{K4, K8}
 use Rattle.walks.specs.declared.Answer.{Answer}

@@ -1,0 +1,27 @@
+-- `places::address_of` meets its contract: both sizes, by cases. Assumes nothing.
+use native.Mathlib.Omega.{arith}
+use borrow.Author.Needs.{needs}
+use Rattle.places.proofs.address_of.Statement.{statement}
+use Rattle.places.proofs.address_of.Tie as tie
+
+enum-told : tie.Need-enum-told
+enum-told c = search needs
+
+mul-result : tie.Need-mul-result
+mul-result c = search needs
+
+enum-told-2 : tie.Need-enum-told-2
+enum-told-2 c = search needs
+
+mul-result-2 : tie.Need-mul-result-2
+mul-result-2 c = search needs
+
+returns : tie.Need-returns
+returns c = (cc, omega arith)
+
+returns-2 : tie.Need-returns-2
+returns-2 c = (cc, omega arith)
+
+pub address-of-spec : {M : Type 1} → statement M
+address-of-spec =
+    tie.close (tie.spec enum-told mul-result enum-told-2 mul-result-2 returns returns-2)

@@ -1,0 +1,46 @@
+-- `places::number_of` meets its contract: both sizes, by cases. Assumes nothing.
+use native.Mathlib.Omega.{arith}
+use borrow.Author.Needs.{needs}
+use Rattle.places.proofs.number_of.Statement.{statement}
+use Rattle.places.proofs.number_of.Tie as tie
+
+mode-number-requires : tie.Need-mode-number-requires
+mode-number-requires c κs = search needs
+
+enum-told : tie.Need-enum-told
+enum-told c = search needs
+
+mul-result : tie.Need-mul-result
+mul-result c = search needs
+
+add-result : tie.Need-add-result
+add-result c = search needs
+
+enum-told-2 : tie.Need-enum-told-2
+enum-told-2 c = search needs
+
+mul-result-2 : tie.Need-mul-result-2
+mul-result-2 c = search needs
+
+add-result-2 : tie.Need-add-result-2
+add-result-2 c = search needs
+
+returns : tie.Need-returns
+returns c = rw (c .enum-told .given .1) (omega arith)
+
+returns-2 : tie.Need-returns-2
+returns-2 c = rw (c .enum-told2 .given .1) (omega arith)
+
+pub number-of-spec : {M : Type 1} → statement M
+number-of-spec =
+    tie.close
+    (tie.spec
+    mode-number-requires
+    enum-told
+    mul-result
+    add-result
+    enum-told-2
+    mul-result-2
+    add-result-2
+    returns
+    returns-2)

@@ -1,0 +1,3 @@
+-- hand-written modules
+pub mod Judging
+pub mod Unique
