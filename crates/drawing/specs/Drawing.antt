@@ -38,11 +38,11 @@ abbrev pub vectorAt : Beam → Beam → ℕ → Item
 vectorAt from to at = Vector (tenBits (from .x)) (tenBits (from .y)) (tenBits (to .x)) (tenBits (to .y)) at
 
 abbrev pub characterAt : CharacterSize → ℕ → Beam → ℕ → Item
-characterAt size code beam at = Character (tenBits (beam .x)) (tenBits (beam .y)) code size at
+characterAt size code beam at = Character size (tenBits (beam .x)) (tenBits (beam .y)) code at
 
 -- "A cursor item follows its character or blank, at the same place with the same code and size"
 abbrev pub cursorAt : CharacterSize → ℕ → Beam → ℕ → Item
-cursorAt size code beam at = Cursor (tenBits (beam .x)) (tenBits (beam .y)) code size at
+cursorAt size code beam at = Cursor size (tenBits (beam .x)) (tenBits (beam .y)) code at
 
 -- what coordinates draw: nothing, a point, or a vector from where the beam stood, also where it has no length
 abbrev pub traceStrokes : Trace → Beam → Beam → ℕ → List Stroke
@@ -85,14 +85,14 @@ firstStrokes (Codes s a b) beam c0 size at = codeStrokes s a c0 beam (wrapOf siz
 abbrev pub counts : Item → Bool
 counts (Point x y at) = true
 counts (Vector x₀ y₀ x y at) = true
-counts (Character x y code size at) = true
-counts (Cursor x y code size at) = false
+counts (Character size x y code at) = true
+counts (Cursor size x y code at) = false
 
 abbrev pub addressOf : Item → ℕ
 addressOf (Point x y at) = at
 addressOf (Vector x₀ y₀ x y at) = at
-addressOf (Character x y code size at) = at
-addressOf (Cursor x y code size at) = at
+addressOf (Character size x y code at) = at
+addressOf (Cursor size x y code at) = at
 
 -- whether the sight falls on this item, and the sight for those behind it
 abbrev pub falls : ℕ → Item → Bool

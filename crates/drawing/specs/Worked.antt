@@ -49,16 +49,16 @@ pub record Worked : Type 0 where
   pub increments : items (codes 0x7F 0x80) mode.IncrementalVector (beamAt 1000 10) false false 0 ≡ Vector 1000 10 39 970 10 ∷ []
   pub increments-blanked : items (codes 0x7F 0x81) mode.IncrementalPoint (beamAt 1000 10) false false 0 ≡ []
   pub idle : items (codes 0xC1 0xC2) mode.Idle (beamAt 3 5) true true 0 ≡ []
-  pub characters : items (codes 0xC1 0xC2) mode.Large (beamAt 0 1023) false false 0 ≡ Character 0 1023 0xC1 size.Large 10 ∷ Character 21 1023 0xC2 size.Large 11 ∷ []
-  pub cursor : items (codes 0xC1 0xC2) mode.Basic (beamAt 0 1023) true false 0 ≡ Character 0 1023 0xC1 size.Basic 10 ∷ Cursor 0 1023 0xC1 size.Basic 10 ∷ Character 14 1023 0xC2 size.Basic 11 ∷ []
-  pub cursor-on-blank : items (codes 0x40 0xC2) mode.Basic (beamAt 0 1023) true false 0 ≡ Cursor 0 1023 0x40 size.Basic 10 ∷ Character 14 1023 0xC2 size.Basic 11 ∷ []
-  pub cursor-on-null : items (codes 0x00 0xC2) mode.Basic (beamAt 0 1023) true false 0 ≡ Character 0 1023 0xC2 size.Basic 11 ∷ []
-  pub cursor-on-new-line : items (codes 0x15 0xC2) mode.Basic (beamAt 700 1023) true false 0 ≡ Character 0 1003 0xC2 size.Basic 11 ∷ []
-  pub odd-2A : items (codes 0xC1 0x2A) mode.Basic (beamAt 0 1023) false true 0 ≡ Character 0 1023 0xC1 size.Basic 10 ∷ Cursor 14 1023 0x2A size.Basic 11 ∷ []
+  pub characters : items (codes 0xC1 0xC2) mode.Large (beamAt 0 1023) false false 0 ≡ Character size.Large 0 1023 0xC1 10 ∷ Character size.Large 21 1023 0xC2 11 ∷ []
+  pub cursor : items (codes 0xC1 0xC2) mode.Basic (beamAt 0 1023) true false 0 ≡ Character size.Basic 0 1023 0xC1 10 ∷ Cursor size.Basic 0 1023 0xC1 10 ∷ Character size.Basic 14 1023 0xC2 11 ∷ []
+  pub cursor-on-blank : items (codes 0x40 0xC2) mode.Basic (beamAt 0 1023) true false 0 ≡ Cursor size.Basic 0 1023 0x40 10 ∷ Character size.Basic 14 1023 0xC2 11 ∷ []
+  pub cursor-on-null : items (codes 0x00 0xC2) mode.Basic (beamAt 0 1023) true false 0 ≡ Character size.Basic 0 1023 0xC2 11 ∷ []
+  pub cursor-on-new-line : items (codes 0x15 0xC2) mode.Basic (beamAt 700 1023) true false 0 ≡ Character size.Basic 0 1003 0xC2 11 ∷ []
+  pub odd-2A : items (codes 0xC1 0x2A) mode.Basic (beamAt 0 1023) false true 0 ≡ Character size.Basic 0 1023 0xC1 10 ∷ Cursor size.Basic 14 1023 0x2A 11 ∷ []
   pub odd-2A-spaces : after (codes 0xC1 0x2A) mode.Basic (beamAt 0 1023) ≡ beamAt 28 1023
-  pub first-seen : items (codes 0xC1 0xC2) mode.Basic (beamAt 0 1023) true false 1 ≡ Character 0 1023 0xC1 size.Basic 10 ∷ []
+  pub first-seen : items (codes 0xC1 0xC2) mode.Basic (beamAt 0 1023) true false 1 ≡ Character size.Basic 0 1023 0xC1 10 ∷ []
   pub first-struck : struck (codes 0xC1 0xC2) mode.Basic (beamAt 1022 500) 1 ≡ At 10 (beamAt 0 480)
-  pub second-seen : items (codes 0xC1 0xC2) mode.Basic (beamAt 0 1023) true true 2 ≡ Character 0 1023 0xC1 size.Basic 10 ∷ Cursor 0 1023 0xC1 size.Basic 10 ∷ Character 14 1023 0xC2 size.Basic 11 ∷ []
+  pub second-seen : items (codes 0xC1 0xC2) mode.Basic (beamAt 0 1023) true true 2 ≡ Character size.Basic 0 1023 0xC1 10 ∷ Cursor size.Basic 0 1023 0xC1 10 ∷ Character size.Basic 14 1023 0xC2 11 ∷ []
   pub second-struck : struck (codes 0xC1 0xC2) mode.Basic (beamAt 0 1023) 2 ≡ At 11 (beamAt 28 1023)
   pub first-is-second : struck (codes 0x40 0xC2) mode.Basic (beamAt 0 1023) 1 ≡ At 11 (beamAt 28 1023)
   pub no-second : struck (codes 0x40 0xC2) mode.Basic (beamAt 0 1023) 2 ≡ Missed

@@ -147,10 +147,10 @@ fn character(size: CharacterSize, code: u8, beam: Beam, at: u16) -> Item
     ensures { λ r. ⌜ r ≡ characterAt size code beam at ⌝ }
 {
     Item::Character {
+        size: size,
         x: beam.x % 1024,
         y: beam.y % 1024,
-        code: code,
-        size: size,
+        code: code as u16,
         at: at,
     }
 }
@@ -160,10 +160,10 @@ fn cursor(size: CharacterSize, code: u8, beam: Beam, at: u16) -> Item
     ensures { λ r. ⌜ r ≡ cursorAt size code beam at ⌝ }
 {
     Item::Cursor {
+        size: size,
         x: beam.x % 1024,
         y: beam.y % 1024,
-        code: code,
-        size: size,
+        code: code as u16,
         at: at,
     }
 }

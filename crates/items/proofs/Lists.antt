@@ -29,8 +29,8 @@ sets-append (x ∷ xs) ys l i j p = sets-append xs ys (set l i x) (suc i) j (ome
 pub eight-numbers : (i : Item) → length (numbersOf i) ≡ 8
 eight-numbers (Point x y at) = refl
 eight-numbers (Vector x₀ y₀ x y at) = refl
-eight-numbers (Character x y code size at) = refl
-eight-numbers (Cursor x y code size at) = refl
+eight-numbers (Character size x y code at) = refl
+eight-numbers (Cursor size x y code at) = refl
 
 pub length-numbers : (is : List Item) → length (numbers is) ≡ 8 * length is
 length-numbers [] = refl

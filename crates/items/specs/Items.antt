@@ -25,8 +25,8 @@ sizeNumber Large = 2
 abbrev pub numbersOf : Item → List ℕ
 numbersOf (Point x y at) = 1 ∷ x ∷ y ∷ x ∷ y ∷ 0 ∷ 0 ∷ at ∷ []
 numbersOf (Vector x₀ y₀ x y at) = 2 ∷ x₀ ∷ y₀ ∷ x ∷ y ∷ 0 ∷ 0 ∷ at ∷ []
-numbersOf (Character x y code size at) = 3 ∷ x ∷ y ∷ x ∷ y ∷ code ∷ sizeNumber size ∷ at ∷ []
-numbersOf (Cursor x y code size at) = 4 ∷ x ∷ y ∷ x ∷ y ∷ code ∷ sizeNumber size ∷ at ∷ []
+numbersOf (Character size x y code at) = 3 ∷ x ∷ y ∷ x ∷ y ∷ code ∷ sizeNumber size ∷ at ∷ []
+numbersOf (Cursor size x y code at) = 4 ∷ x ∷ y ∷ x ∷ y ∷ code ∷ sizeNumber size ∷ at ∷ []
 
 -- the numbers of several items, one item after the other
 abbrev pub numbers : List Item → List ℕ

@@ -23,17 +23,17 @@ pub enum Item {
         at: u16,
     },
     Character {
+        size: CharacterSize,
         x: u16,
         y: u16,
-        code: u8,
-        size: CharacterSize,
+        code: u16,
         at: u16,
     },
     Cursor {
+        size: CharacterSize,
         x: u16,
         y: u16,
-        code: u8,
-        size: CharacterSize,
+        code: u16,
         at: u16,
     },
 }
@@ -102,14 +102,14 @@ fn put_item(out: &mut [u16], at: usize, item: Item)
             code,
             size,
             at: p,
-        } => put8(out, at, 3, x, y, x, y, code as u16, size_number(size), p),
+        } => put8(out, at, 3, x, y, x, y, code, size_number(size), p),
         Item::Cursor {
             x,
             y,
             code,
             size,
             at: p,
-        } => put8(out, at, 4, x, y, x, y, code as u16, size_number(size), p),
+        } => put8(out, at, 4, x, y, x, y, code, size_number(size), p),
     }
 }
 

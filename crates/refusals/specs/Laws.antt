@@ -2,7 +2,7 @@
 use Prim.Native.Nat.{ℕ, zero, suc}
 use mathlib.Core.Path.{_≡_, refl, sym, ap, _∙_}
 use Rattle.refusals.specs.declared.Refusal.{Refusal}
-use Rattle.refusals.specs.declared.Refusal.the-variants.{WrongSize, TooLong, OddStart, FarStart, ShortStore, Cut, UnknownKind, UnknownSight, UnusedBit, WrongCount}
+use Rattle.refusals.specs.declared.Refusal.the-variants.{WrongSize, TooLong, OddStart, FarStart, ShortStore, CutOrShort, UnknownKind, UnknownSight, UnusedBit, WrongCount}
 use Rattle.refusals.specs.Refusals.{refusalNumber}
 
 -- the refusal of a number; a number that is none's gives the nearest
@@ -13,7 +13,7 @@ numbered (suc (suc zero)) = TooLong
 numbered (suc (suc (suc zero))) = OddStart
 numbered (suc (suc (suc (suc zero)))) = FarStart
 numbered (suc (suc (suc (suc (suc zero))))) = ShortStore
-numbered (suc (suc (suc (suc (suc (suc zero)))))) = Cut
+numbered (suc (suc (suc (suc (suc (suc zero)))))) = CutOrShort
 numbered (suc (suc (suc (suc (suc (suc (suc zero))))))) = UnknownKind
 numbered (suc (suc (suc (suc (suc (suc (suc (suc zero)))))))) = UnknownSight
 numbered (suc (suc (suc (suc (suc (suc (suc (suc (suc zero))))))))) = UnusedBit
@@ -25,7 +25,7 @@ back TooLong = refl
 back OddStart = refl
 back FarStart = refl
 back ShortStore = refl
-back Cut = refl
+back CutOrShort = refl
 back UnknownKind = refl
 back UnknownSight = refl
 back UnusedBit = refl

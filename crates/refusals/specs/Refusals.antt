@@ -1,7 +1,7 @@
 -- The refusals and their numbers (01, "The validator": the table "No. / Refused when").
 use Prim.Native.Nat.{ℕ}
 use Rattle.refusals.specs.declared.Refusal.{Refusal}
-use Rattle.refusals.specs.declared.Refusal.the-variants.{WrongSize, TooLong, OddStart, FarStart, ShortStore, Cut, UnknownKind, UnknownSight, UnusedBit, WrongCount}
+use Rattle.refusals.specs.declared.Refusal.the-variants.{WrongSize, TooLong, OddStart, FarStart, ShortStore, CutOrShort, UnknownKind, UnknownSight, UnusedBit, WrongCount}
 
 abbrev pub refusalNumber : Refusal → ℕ
 refusalNumber WrongSize = 1
@@ -9,7 +9,7 @@ refusalNumber TooLong = 2
 refusalNumber OddStart = 3
 refusalNumber FarStart = 4
 refusalNumber ShortStore = 5
-refusalNumber Cut = 6
+refusalNumber CutOrShort = 6
 refusalNumber UnknownKind = 7
 refusalNumber UnknownSight = 8
 refusalNumber UnusedBit = 9

@@ -16,7 +16,7 @@ pub enum Refusal {
     // 5: the working store is under 32,768 bytes.
     ShortStore,
     // 6: a record is cut, or its payload is under 4 bytes.
-    Cut,
+    CutOrShort,
     // 7: the record's kind is unknown.
     UnknownKind,
     // 8: a sight is above 2.
@@ -37,7 +37,7 @@ pub fn refusal_number(refusal: Refusal) -> u8
         Refusal::OddStart => 3,
         Refusal::FarStart => 4,
         Refusal::ShortStore => 5,
-        Refusal::Cut => 6,
+        Refusal::CutOrShort => 6,
         Refusal::UnknownKind => 7,
         Refusal::UnknownSight => 8,
         Refusal::UnusedBit => 9,

@@ -17,9 +17,6 @@ put8-requires-2 c κs = search needs
 enum-known-item-3 : tie.Need-enum-known-item-3
 enum-known-item-3 c = search needs
 
-cast-put8 : tie.Need-cast-put8
-cast-put8 c = search needs
-
 size-number-requires : tie.Need-size-number-requires
 size-number-requires c κs = search needs
 
@@ -28,9 +25,6 @@ put8-requires-3 c κs = search needs
 
 enum-known-item-4 : tie.Need-enum-known-item-4
 enum-known-item-4 c = search needs
-
-cast-put8-2 : tie.Need-cast-put8-2
-cast-put8-2 c = search needs
 
 size-number-requires-2 : tie.Need-size-number-requires-2
 size-number-requires-2 c κs = search needs
@@ -71,11 +65,9 @@ put-item-spec =
     enum-known-item-2
     put8-requires-2
     enum-known-item-3
-    cast-put8
     size-number-requires
     put8-requires-3
     enum-known-item-4
-    cast-put8-2
     size-number-requires-2
     put8-requires-4
     same-length

@@ -1,0 +1,256 @@
+// The listing of verdicts: reads records from standard input through a window of fixed size, and prints a line for each on
+// standard output.
+ghost use mathlib.Core.Path.{_≡_};
+ghost use Rattle.refusals.specs.Refusals.{refusalNumber};
+ghost use Prim.Native.Nat.{ℕ, _≤_};
+ghost use lib.ListN.{length, take, drop};
+ghost use Rattle.text.specs.Text.{putAt, endOf};
+ghost use Rattle.records.specs.Records.{payloadOf};
+ghost use Rattle.stream.specs.Stream.{heldOf, pastOf};
+ghost use Rattle.validator.specs.Verdict.{valuesOf};
+ghost use Rattle.listing.specs.Listing.{keptOf, endedOf, Rest, Found, verdictLine, Answered, Listed, Ended};
+use records::Head;
+use records::Payload;
+use refusals::Refusal;
+use stream::Output;
+use stream::Window;
+use validator::Verdict;
+
+// What is found where a record was due.
+enum Entry {
+    // All of a record: its kind, and how many bytes of its payload stand at the front of the window.
+    Whole(usize, usize, Window),
+    // A record that is cut, which ends the listing.
+    Cut(Refusal),
+    // Nothing more.
+    End,
+}
+
+// Where the listing stands behind a record.
+struct Turn {
+    window: Window,
+    output: Output,
+}
+
+// The number that a refusal is printed as.
+fn number_of(refusal: Refusal) -> usize
+    ensures { λ r. ⌜ r ≡ refusalNumber refusal ⌝ }
+{
+    refusals::refusal_number(refusal) as usize
+}
+
+// How many bytes of a payload are kept: size, start and one byte more than the largest buffer has.
+fn kept(length: usize) -> usize
+    ensures { λ r. ⌜ r ≡ keptOf length ⌝ }
+{
+    if length < 8197 { length } else { 8197 }
+}
+
+// What is found where no header stands.
+fn without_head(head: Head) -> Entry
+    ensures { λ r. ⌜ r ≡ endedOf head ⌝ }
+{
+    match head {
+        Head::Record { length: _, kind: _ } => Entry::End,
+        Head::Cut => Entry::Cut(Refusal::CutOrShort),
+        Head::End => Entry::End,
+    }
+}
+
+// Reads a payload, and passes over what is not kept of it.
+fn read_rest(input: &mut [u8], window: Window, length: usize, kind: usize) -> Entry
+    ensures { λ r. ⌜ Rest (now (input .entry)) window length kind (now (input .exit)) r ⌝ }
+{
+    let next = stream::fill(input, window, kept(length));
+    let count = stream::held(input, next).len();
+    if length <= count {
+        return Entry::Whole(kind, length, next);
+    }
+    if stream::skip(length - count) {
+        return Entry::Whole(kind, count, next);
+    }
+    Entry::Cut(records::read_cut(kind))
+}
+
+// Reads the next record.
+fn read_record(input: &mut [u8], window: Window) -> Entry
+    ensures { λ r. ⌜ Found (now (input .entry)) window (now (input .exit)) r ⌝ }
+{
+    let next = stream::fill(input, window, 6);
+    let head = records::read_head(stream::held(input, next));
+    let Head::Record { length, kind } = head else {
+        return without_head(head);
+    };
+    read_rest(input, stream::past(next, 6), length, kind)
+}
+
+// The image in a payload of kind 1.
+fn image_of(payload: &[u8]) -> &[u8]
+    ensures { λ r. ⌜ now r ≡ drop 4 (now (payload .entry)) ⌝ }
+{
+    if payload.len() < 4 {
+        return &payload[0..0];
+    }
+    &payload[4..]
+}
+
+// Puts the line of a verdict.
+fn put_verdict(lines: &mut [u8], at: usize, number: usize, verdict: Verdict) -> usize
+    ensures { λ r. ⌜ r ≡ endOf (now (lines .entry)) at (verdictLine number (valuesOf verdict)) ⌝ }
+    ensures { λ _. ⌜ now (lines .exit) ≡ putAt (now (lines .entry)) at (verdictLine number (valuesOf verdict)) ⌝ }
+{
+    match verdict {
+        Verdict::Passed(places) => lines::put_passed(lines, at, number, places),
+        Verdict::Fault(fault, address, steps) => lines::put_fault(
+            lines,
+            at,
+            number,
+            look::fault_number(fault) as usize,
+            address,
+            steps,
+        ),
+        Verdict::Refused(refusal) => {
+            lines::put_refused(
+                lines,
+                at,
+                number,
+                refusals::refusal_number(refusal) as usize,
+            )
+        }
+    }
+}
+
+// Puts the line of a whole record.
+fn put_answer(
+    lines: &mut [u8],
+    at: usize,
+    number: usize,
+    kind: usize,
+    payload: &[u8],
+    store: &mut [u8],
+) -> usize
+    ensures { λ r. ⌜ Answered (payloadOf kind (now (payload .entry))) (drop 4 (now (payload .entry))) number (now (store .entry)) (now (store .exit)) (now (lines .entry)) at (now (lines .exit)) r ⌝ }
+{
+    match records::read_payload(kind, payload) {
+        Payload::Refused(refusal) => { lines::put_refused(lines, at, number, number_of(refusal)) }
+        Payload::Image { size, start } => {
+            let verdict = validator::validate(image_of(payload), size, start, store);
+            put_verdict(lines, at, number, verdict)
+        }
+    }
+}
+
+// The first bytes of a slice.
+fn first(bytes: &[u8], count: usize) -> &[u8]
+    ensures { λ r. ⌜ now r ≡ take count (now (bytes .entry)) ⌝ }
+{
+    if bytes.len() <= count {
+        return bytes;
+    }
+    &bytes[0..count]
+}
+
+// Puts the line of a whole record, where there is room for one.
+fn list_line(
+    lines: &mut [u8],
+    output: Output,
+    number: usize,
+    kind: usize,
+    payload: &[u8],
+    store: &mut [u8],
+) -> Output
+    ensures { λ r. ⌜ Listed (payloadOf kind (now (payload .entry))) (drop 4 (now (payload .entry))) number (now (store .entry)) (now (store .exit)) (now (lines .entry)) (now (lines .exit)) (r .at) ⌝ }
+{
+    let ready = stream::room(lines, output, 128);
+    let at = put_answer(lines, ready.at, number, kind, payload, store);
+    Output {
+        at,
+        open: ready.open,
+    }
+}
+
+// Writes what waits where the program is about to wait for a header.
+fn before_read(input: &[u8], window: Window, lines: &[u8], output: Output) -> Output
+    ensures { λ r. ⌜ (6 ≤ length (heldOf (now (input .entry)) window) → r ≡ output) ⌝ }
+{
+    if stream::held(input, window).len() < 6 {
+        return stream::flush(lines, output);
+    }
+    output
+}
+
+// Lists a whole record, the first `count` bytes of whose payload stand at the front of the window.
+fn list_whole(
+    input: &[u8],
+    window: Window,
+    count: usize,
+    kind: usize,
+    number: usize,
+    lines: &mut [u8],
+    output: Output,
+    store: &mut [u8],
+) -> Turn
+    ensures { λ r. ⌜ r .window ≡ pastOf window count ⌝ }
+    ensures { λ _. ⌜ ((end : ℕ) × Listed (payloadOf kind (take count (heldOf (now (input .entry)) window))) (drop 4 (take count (heldOf (now (input .entry)) window))) number (now (store .entry)) (now (store .exit)) (now (lines .entry)) (now (lines .exit)) end) ⌝ }
+{
+    let payload = first(stream::held(input, window), count);
+    let listed = list_line(lines, output, number, kind, payload, store);
+    let next = stream::past(window, count);
+    Turn {
+        window: next,
+        output: before_read(input, next, lines, listed),
+    }
+}
+
+// Ends the listing: a cut record has a line, the end of the input has none.
+fn list_last(lines: &mut [u8], output: Output, number: usize, entry: Entry) -> Output
+    ensures { λ r. ⌜ Ended entry number (now (lines .entry)) (now (lines .exit)) r ⌝ }
+{
+    let Entry::Cut(refusal) = entry else {
+        return stream::flush(lines, output);
+    };
+    let ready = stream::room(lines, output, 128);
+    let at = lines::put_refused(lines, ready.at, number, number_of(refusal));
+    stream::flush(
+        lines,
+        Output {
+            at,
+            open: ready.open,
+        },
+    )
+}
+
+// Lists records until one is cut, the input ends, the output is shut or `most` are listed.
+fn list_in(input: &mut [u8], lines: &mut [u8], store: &mut [u8], most: usize) -> usize
+    ensures { λ r. ⌜ r ≤ most ⌝ }
+{
+    let mut window = Window { from: 0, end: 0 };
+    let mut output = Output { at: 0, open: true };
+    let mut number = 0;
+    while number < most {
+        let entry = read_record(input, window);
+        let Entry::Whole(kind, count, held) = entry else {
+            list_last(lines, output, number + 1, entry);
+            return number;
+        };
+        number += 1;
+        let turn = list_whole(input, held, count, kind, number, lines, output, store);
+        window = turn.window;
+        output = turn.output;
+        if !output.open {
+            return number;
+        }
+    }
+    stream::flush(lines, output);
+    number
+}
+
+// Lists the records of standard input, `most` at most, and answers how many were whole.
+pub fn list(most: usize) -> usize
+    ensures { λ r. ⌜ r ≤ most ⌝ }
+{
+    let mut input = [0u8; 65536];
+    let mut lines = [0u8; 4096];
+    let mut store = [0u8; 32768];
+    list_in(&mut input, &mut lines, &mut store, most)
+}

@@ -1,0 +1,4 @@
+// The program verdict on another input.
+fn main() {
+    listing::list(usize::MAX);
+}
