@@ -1,5 +1,5 @@
 -- Demand 3's two promises: to a device that is loaded with a passed image and started, and to whoever is told a fault.
-use Prim.Native.Nat.{ℕ, zero, suc, _+_, _*_, _/_, _%_, _<_}
+use Prim.Native.Nat.{ℕ, zero, suc, _%_, _<_, _≤_}
 use native.Mathlib.Nat.{div-add-mod'}
 use native.Mathlib.Numerals.{add-one}
 use native.Mathlib.Omega.{arith}
@@ -22,6 +22,12 @@ use Rattle.walks.specs.Walks.{Reach, Right}
 use Rattle.codes.specs.Codes.{classOf, addressIn}
 use Rattle.commands.specs.Commands.{commandOf, triedOf, startedAt}
 use Rattle.device.specs.declared.Device.{Device}
+use Rattle.device.specs.Device.{freshOf, loadOf}
+use Rattle.commands.specs.Commands.{Outcome}
+use Rattle.roundtrips.specs.RoundTrips.{Bytes}
+use Rattle.roundtrips.specs.Images.{dumpOf}
+use Rattle.roundtrips.proofs.Images.{dump-image, dump-loaded}
+use Rattle.roundtrips.proofs.RoundTrips.{written-is, fresh-quiet, written-image}
 use Rattle.assurance.specs.Promise.{Event, AllHarmless, Never, Loaded, bytesOf}
 use Rattle.assurance.specs.Alarm.{Walk, Alarm}
 use Rattle.assurance.proofs.Events.{never}
@@ -43,6 +49,20 @@ module _ (image : List ℕ) (size : Size) (start : ℕ) where
       → (es : List Event) → AllHarmless es → Never (commandOf d 0x27 (bytesOf start) room .answered .device) es
   promise c right even inside d same carries waiting room es harmless =
       never image size start (right .sound) _ (started d same carries waiting even inside room) es harmless
+
+  module _ (c : ℕ) (right : Right image (record { size = size }) start (Passed c)) (even : start % 2 ≡ 0) (inside : start < sizeOf size) (bytes : Bytes image) (fits : length image ≤ sizeOf size) where
+    -- the promise to a unit that is loaded with the image by a dump
+    pub promise-dump : (d : Device) (room : List ℕ) (es : List Event) → AllHarmless es
+        → Never (commandOf (loadOf d (sizeOf size) (dumpOf size image) .device) 0x27 (bytesOf start) room .answered .device) es
+    promise-dump d room es harmless =
+        rw (dump-loaded d size image bytes fits) (promise c right even inside _ refl (dump-image size image bytes fits) refl room es harmless)
+
+    -- the promise to a fresh unit that Write Buffer stores the image into
+    pub promise-written : (room room′ : List ℕ) (es : List Event) → AllHarmless es
+        → Never (commandOf (commandOf (freshOf size) 0x01 image room .answered .device) 0x27 (bytesOf start) room′ .answered .device) es
+    promise-written room room′ es harmless =
+        promise c right even inside _ (ap (λ (o : Outcome). o .answered .device .state .size) (written-is (freshOf size) image room (fresh-quiet size)))
+        (written-image size image room bytes fits) (ap (λ (o : Outcome). o .answered .device .status) (written-is (freshOf size) image room (fresh-quiet size))) room′ es harmless
 
 module _ (step : Place → Step Place) where
   -- one step more at a walk's end

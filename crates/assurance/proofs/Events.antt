@@ -21,7 +21,7 @@ use Rattle.device.specs.Device.{switchedOf}
 use Rattle.assurance.specs.Promise.{Event, after, Harmless, Undisturbed, Never, AllHarmless, Within, Loaded}
 use Rattle.assurance.proofs.Steps.{Clear}
 use Rattle.assurance.proofs.Runs.{run-fine}
-use Rattle.assurance.proofs.Cursors.{at-carries, inserted-carries}
+use Rattle.roundtrips.proofs.Images.{cursor-carries}
 
 -- what holds of both holds of the one that is taken
 both : {A : Type 0} (P : A → Type 0) (b : Bool) {x y : A} → P x → P y → P (cond b x y)
@@ -63,9 +63,9 @@ module _ (image : List ℕ) (size : Size) (start : ℕ) where
     stopped-keeps r code =
         both Keeps (eqb code 0x02) (record { carries = l .carries; within = idle _ (l .within .same) r })
         (both Keeps (eqb code 0x06) (record { carries = l .carries; within = idle _ (l .within .same) r })
-        (both Keeps (eqb code 0x0F) (record { carries = rw (l .within .same) (inserted-carries image size (d .state .address) (d .words) (l .carries)); within = l .within })
+        (both Keeps (eqb code 0x0F) (record { carries = rw (l .within .same) (cursor-carries (d .words) image size (l .carries) .inserted (d .state .address)); within = l .within })
         (both Keeps (eqb code 0x12) (record { carries = l .carries; within = l .within })
-        (record { carries = at-carries image size false (wrapOf (d .state .size) (d .state .address)) (d .words) (l .carries); within = l .within }))))
+        (record { carries = cursor-carries (d .words) image size (l .carries) .at false (wrapOf (d .state .size) (d .state .address)); within = l .within }))))
 
     done-keeps : (k : Class) → Mild k → (b : Bool) → d .state .running ≡ b → (code : ℕ) (bytes : List ℕ) → Keeps (cond (allowed k b) (doneOf d k code bytes room) (outcome (rejectedOf d) room))
     done-keeps class.Kept m b r code bytes =

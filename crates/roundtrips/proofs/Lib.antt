@@ -1,0 +1,4 @@
+-- hand-written modules
+pub mod Buffers
+pub mod Images
+pub mod RoundTrips
