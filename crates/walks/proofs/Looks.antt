@@ -148,7 +148,7 @@ module _ (s : Size) where
   look-sound fetch a m even = second-sound m (firstBy s a m (fetch a)) (first-going a even m (fetch a)) (fetch (aheadOf s a 2))
 
 -- a group that is not bad
-abbrev Good : Group → Type 0
+abbrev pub Good : Group → Type 0
 Good group.Unwritten = Unit {0}
 Good (group.Bad a) = ⊥
 Good (group.Bytes b c) = Unit {0}
@@ -157,7 +157,8 @@ group-good : (written : Bool) (a b x y : ℕ) → Good (groupBy written true tru
 group-good true a b x y = tt
 group-good false a b x y = tt
 
-image-good : (image : List ℕ) (s : Size) (a : ℕ) → Good (imageGroup image s a)
+-- no group of an image has bad parity
+pub image-good : (image : List ℕ) (s : Size) (a : ℕ) → Good (imageGroup image s a)
 unfolding imageGroup
 image-good image s a =
     group-good (ltb (wrapOf s a) (length image) && ltb (aheadOf s a 1) (length image)) (wrapOf s a) (aheadOf s a 1)

@@ -1,0 +1,3 @@
+-- hand-written modules
+pub mod Unit
+pub mod Images

@@ -1,0 +1,140 @@
+-- Demand 1 shown: every call of a well-made device gives a well-made device. Assumes nothing.
+use Prim.Native.Nat.{ℕ, _%_, _<_}
+use native.Mathlib.Omega.{arith}
+use mathlib.Core.Path.{_≡_, refl, sym, subst}
+use mathlib.Core.Bool.{Bool, true, false, cond, _&&_}
+use mathlib.Core.List.{List}
+use lib.Dec.{eqb, ltb}
+use lib.ListN.{length}
+use borrow.Author.Tests.{eqb-true, ltb-true}
+use Rattle.orders.specs.Orders.{sizeOf, wrapOf}
+use Rattle.orders.specs.declared.Size.{Size}
+use Rattle.orders.specs.declared.Mode.{Mode}
+use Rattle.refusals.specs.declared.Refusal.{Refusal}
+use Rattle.refusals.specs.declared.Refusal.the-variants.{UnusedBit, WrongCount, OddStart, FarStart}
+use Rattle.device.specs.declared.State.{State}
+use Rattle.device.specs.declared.Sense.{Sense}
+use Rattle.device.specs.declared.Device.{Device}
+use Rattle.device.specs.declared.Sized.{Sized}
+use Rattle.device.specs.declared.Sized.the-variants as sized
+use Rattle.device.specs.declared.Answer.the-variants as answer
+use Rattle.device.specs.Device.{freshWith, sizedOf, allProper, dumpWords, refusedBy, loadedBy, loadOf, withState, switchedOf}
+use Rattle.codes.specs.Codes.{addressIn, classOf, allowed, sentBy}
+use Rattle.codes.specs.declared.Class.{Class}
+use Rattle.codes.specs.declared.Class.the-variants as class
+use Rattle.codes.specs.declared.Sent.{Sent}
+use Rattle.codes.specs.declared.Sent.the-variants as sent
+use Rattle.commands.specs.Commands.{Outcome, reset, readBy, stoppedOf, doneOf, triedOf, commandBy, commandOf}
+use Rattle.step.specs.declared.End.the-variants as end
+use Rattle.run.specs.declared.Ran.{Ran}
+use Rattle.run.specs.declared.Progress.{Progress}
+use Rattle.run.specs.Run.{progress, runFrom, allSights, deviceAfter, runOf}
+use Rattle.roundtrips.specs.RoundTrips.{Bytes}
+use Rattle.roundtrips.proofs.Buffers.{either-way, inside}
+use Rattle.wellmade.specs.Calls.{FreshWell, LoadWell, SwitchWell, CommandWell, RunWell}
+use Rattle.wellmade.specs.WellMade.{WordsMade, WellMade}
+use Rattle.wellmade.proofs.Words.{written-made, behind-inside, read-inside, removed-made, inserted-made, fresh-made, dump-made}
+use Rattle.wellmade.proofs.Steps.{Onward, run-made}
+
+fresh-with : (s : Size) (words : List ℕ) → WordsMade s words → WellMade (freshWith s words)
+fresh-with s words m = record { words = m; state = record { address = omega (arith, inside s 0); beam = record { x = omega arith; y = omega arith } } }
+
+pub fresh-well : FreshWell
+fresh-well s = fresh-with s _ (fresh-made s)
+
+module _ (d : Device) (m : WellMade d) where
+  dump-by : (s : Size) (dump : List ℕ) (t u : Bool) → eqb (length dump) (sizeOf s) ≡ t → allProper dump ≡ u → WellMade (cond t (cond u (record { device = freshWith s (dumpWords dump); answer = answer.Done }) (refusedBy d UnusedBit)) (refusedBy d WrongCount) .device)
+  dump-by s dump true true e f = fresh-with s (dumpWords dump) (dump-made s dump (eqb-true (length dump) (sizeOf s) e) f)
+  dump-by s dump true false e f = m
+  dump-by s dump false u e f = m
+
+  loaded-by : (dump : List ℕ) (z : Sized) → WellMade (loadedBy d dump z .device)
+  loaded-by dump (sized.Refused r) = m
+  loaded-by dump (sized.Of s) = dump-by s dump (eqb (length dump) (sizeOf s)) (allProper dump) refl refl
+
+  -- what a run has come to
+  after-well : (p : Progress) → Onward (d .state) (p .state) → WellMade (deviceAfter d p)
+  after-well p h = record { words = subst (λ (s : Size). WordsMade s (d .words)) (sym (h .same)) (m .words); state = h .made }
+
+  -- a device of the same size and beam
+  made : {words : List ℕ} {a : ℕ} {mode : Mode} {running : Bool} {status : ℕ} {sense : Sense} → WordsMade (d .state .size) words → a < sizeOf (d .state .size) → WellMade (record { words = words; state = record { size = d .state .size; address = a; mode = mode; running = running; beam = d .state .beam; pen = d .state .pen }; status = status; sense = sense })
+  made w h = record { words = w; state = record { address = h; beam = m .state .beam } }
+
+  -- the same words and state, whatever the status and the sense are
+  kept : {status : ℕ} {sense : Sense} → WellMade (record { words = d .words; state = d .state; status = status; sense = sense })
+  kept = record { words = m .words; state = m .state }
+
+  abbrev Leaves : Outcome → Type 0
+  Leaves o = WellMade (o .answered .device)
+
+  -- an address that is fit is one of the buffer's
+  fit-inside : (count odd near : Bool) (r q o : Refusal) → cond count (cond odd (sent.Refused r) (cond near sent.Fit (sent.Refused q))) (sent.Refused o) ≡ sent.Fit → near ≡ true
+  fit-inside true true near r q o e = let z : _≡_ {A = ℕ} 0 1 = cc in absurd (omega arith)
+  fit-inside true false true r q o e = refl
+  fit-inside true false false r q o e = let z : _≡_ {A = ℕ} 0 1 = cc in absurd (omega arith)
+  fit-inside false odd near r q o e = let z : _≡_ {A = ℕ} 0 1 = cc in absurd (omega arith)
+
+  module _ (code : ℕ) (bytes room : List ℕ) (below : Bytes bytes) where
+    abbrev s : Size
+    s = d .state .size
+
+    read-well : (seek : Bool) → Leaves (readBy (reset d) seek room)
+    read-well seek = made (m .words) (read-inside (d .words) s seek (wrapOf s (d .state .address)) 0 room (inside s (d .state .address)))
+
+    stopped-well : Leaves (stoppedOf (reset d) code room)
+    stopped-well =
+        either-way Leaves (eqb code 0x02) (read-well false)
+        (either-way Leaves (eqb code 0x06) (read-well true)
+        (either-way Leaves (eqb code 0x0F) (made (inserted-made s (d .state .address) (d .words) (m .words)) (m .state .address))
+        (either-way Leaves (eqb code 0x12) kept (made (removed-made s (d .state .address) (d .words) (m .words)) (m .state .address)))))
+
+    address-well : addressIn bytes < sizeOf s → Leaves (doneOf d class.Address code bytes room)
+    address-well h =
+        either-way (λ (x : State). WellMade (withState (reset d) x)) (eqb code 0x27)
+        (made (m .words) h) (made (m .words) h)
+
+    done-well : (k : Class) → sentBy s k code bytes ≡ sent.Fit → Leaves (doneOf d k code bytes room)
+    done-well class.Kept e = either-way Leaves (eqb code 0x00) m (either-way Leaves (eqb code 0x03) m kept)
+    done-well class.Write e =
+        let at = wrapOf s (d .state .address) in
+        made (written-made s at bytes (d .words) below (inside s (d .state .address)) (m .words)) (behind-inside s at bytes (inside s (d .state .address)))
+    done-well class.Stopped e = stopped-well
+    done-well class.Address e =
+        address-well
+        (ltb-true (addressIn bytes) (sizeOf s)
+        (fit-inside (eqb (length bytes) 2) (eqb code 0x27 && eqb (addressIn bytes % 2) 1) (ltb (addressIn bytes) (sizeOf s)) OddStart FarStart WrongCount e))
+    done-well class.Alarm e = kept
+    done-well class.Invalid e = kept
+
+    tried-well : (k : Class) → sentBy s k code bytes ≡ sent.Fit → Leaves (triedOf d k code bytes room)
+    unfolding triedOf
+    tried-well k e =
+        either-way Leaves (eqb (d .status) 0) (either-way Leaves (allowed k (d .state .running)) (done-well k e) kept) kept
+
+    command-by : (k : Class) (fit : Sent) → sentBy s k code bytes ≡ fit → Leaves (commandBy d k code bytes room fit)
+    command-by k sent.Fit e = tried-well k e
+    command-by k (sent.Refused r) e = m
+
+pub load-well : LoadWell
+unfolding loadOf
+load-well d m size dump = loaded-by d m dump (sizedOf size)
+
+pub switch-well : SwitchWell
+unfolding switchedOf
+switch-well d m closed = record { words = m .words; state = record { address = m .state .address; beam = m .state .beam } }
+
+pub command-well : CommandWell
+unfolding commandOf
+command-well d m code bytes room below =
+    command-by d m code bytes room below (classOf code) (sentBy (d .state .size) (classOf code) code bytes) refl
+
+pub run-well : RunWell
+unfolding runOf
+run-well d m sights out =
+    let ran = runFrom (d .words) sights (d .state) 0 0 out in
+    let none = progress (d .state) 0 0 end.NotRunning in
+    either-way (λ (r : Ran). WellMade (r .device)) (allSights sights)
+    (after-well d m (cond (d .state .running) ran none)
+    (either-way (λ (p : Progress). Onward (d .state) (p .state)) (d .state .running) (run-made (d .words) sights (d .state) 0 0 out (m .state))
+    (record { same = refl; made = m .state })))
+    m
