@@ -7,62 +7,6 @@ use libc::STDOUT_FILENO;
 use orders::Size;
 use run::Outcome;
 
-// Table 6, with N = 0 and basic characters.
-const BOX: [u8; 52] = [
-    0x2A,
-    0x82,
-    0x2A,
-    0x02,
-    0x43,
-    0x20,
-    0x03,
-    0x20,
-    0x09,
-    0x60,
-    0x03,
-    0x20,
-    0x09,
-    0x60,
-    0x09,
-    0x60,
-    0x03,
-    0x20,
-    0x09,
-    0x60,
-    0x03,
-    0x20,
-    0x03,
-    0x20,
-    0x41,
-    0x90,
-    0x0A,
-    0xF0,
-    0x2A,
-    0x44,
-    0xC2,
-    0xD6,
-    0xE7,
-    0x40,
-    0xD5,
-    0xC1,
-    0xD4,
-    0xC5,
-    0x40,
-    0x00,
-    0x2A,
-    0x40,
-    0x40,
-    0x40,
-    0x40,
-    0x40,
-    0x40,
-    0x40,
-    0x2A,
-    0xFF,
-    0x00,
-    0x00,
-];
-
 // Prints a text.
 fn print(text: &[u8]) {
     io::write_all(STDOUT_FILENO, text);
@@ -194,13 +138,14 @@ fn go(device: Device, sights: &[u8]) -> Device {
     unit
 }
 
-// The box is written, its cursor inserted, and the unit started and run once round.
+// The box of Table 6, with N = 0 and basic characters, is written, its cursor inserted, and the unit started and run once round.
 fn example_one(device: Device) -> Device {
     let mut none = [0u8; 0];
     let mut room = [0u8; 4];
-    let image = BOX;
+    let image =
+        b"\x2A\x82\x2A\x02\x43\x20\x03\x20\x09\x60\x03\x20\x09\x60\x09\x60\x03\x20\x09\x60\x03\x20\x03\x20\x41\x90\x0A\xF0\x2A\x44\xC2\xD6\xE7\x40\xD5\xC1\xD4\xC5\x40\x00\x2A\x40\x40\x40\x40\x40\x40\x40\x2A\xFF\x00\x00";
     let a = give(device, 0x07, b"\x00\x00", &mut none);
-    let b = give(a, 0x01, &image, &mut none);
+    let b = give(a, 0x01, image, &mut none);
     let c = give(b, 0x04, b"", &mut room);
     let d = give(c, 0x07, b"\x00\x2A", &mut none);
     let e = give(d, 0x0F, b"", &mut none);
