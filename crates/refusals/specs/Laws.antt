@@ -2,7 +2,7 @@
 use Prim.Native.Nat.{ℕ, zero, suc}
 use mathlib.Core.Path.{_≡_, refl, sym, ap, _∙_}
 use Rattle.refusals.specs.declared.Refusal.{Refusal}
-use Rattle.refusals.specs.declared.Refusal.the-variants.{WrongSize, TooLong, OddStart, FarStart, ShortStore, CutOrShort, UnknownKind, UnknownSight, UnusedBit, WrongCount}
+use Rattle.refusals.specs.declared.Refusal.the-variants.{WrongSize, TooLong, OddStart, FarStart, ShortStore, CutOrShort, UnknownKind, UnknownSight, UnusedBit, WrongCount, UnknownKey}
 use Rattle.refusals.specs.Refusals.{refusalNumber}
 
 -- the refusal of a number; a number that is none's gives the nearest
@@ -17,7 +17,8 @@ numbered (suc (suc (suc (suc (suc (suc zero)))))) = CutOrShort
 numbered (suc (suc (suc (suc (suc (suc (suc zero))))))) = UnknownKind
 numbered (suc (suc (suc (suc (suc (suc (suc (suc zero)))))))) = UnknownSight
 numbered (suc (suc (suc (suc (suc (suc (suc (suc (suc zero))))))))) = UnusedBit
-numbered (suc (suc (suc (suc (suc (suc (suc (suc (suc (suc n)))))))))) = WrongCount
+numbered (suc (suc (suc (suc (suc (suc (suc (suc (suc (suc zero)))))))))) = WrongCount
+numbered (suc (suc (suc (suc (suc (suc (suc (suc (suc (suc (suc n))))))))))) = UnknownKey
 
 back : (r : Refusal) → numbered (refusalNumber r) ≡ r
 back WrongSize = refl
@@ -30,6 +31,7 @@ back UnknownKind = refl
 back UnknownSight = refl
 back UnusedBit = refl
 back WrongCount = refl
+back UnknownKey = refl
 
 pub same-refusal : (r q : Refusal) → refusalNumber r ≡ refusalNumber q → r ≡ q
 same-refusal r q e = sym (back r) ∙ ap numbered e ∙ back q

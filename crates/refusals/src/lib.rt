@@ -25,11 +25,13 @@ pub enum Refusal {
     UnusedBit,
     // 10: a dump's length isn't its size, or data sent with a command are not its fixed count.
     WrongCount,
+    // 13: the key's number is unknown.
+    UnknownKey,
 }
 
 // The number that 01 gives a refusal.
 pub fn refusal_number(refusal: Refusal) -> u8
-    ensures { λ r. ⌜ (r ≡ refusalNumber refusal) × (r < 11) ⌝ }
+    ensures { λ r. ⌜ (r ≡ refusalNumber refusal) × (r < 14) ⌝ }
 {
     match refusal {
         Refusal::WrongSize => 1,
@@ -42,5 +44,6 @@ pub fn refusal_number(refusal: Refusal) -> u8
         Refusal::UnknownSight => 8,
         Refusal::UnusedBit => 9,
         Refusal::WrongCount => 10,
+        Refusal::UnknownKey => 13,
     }
 }

@@ -1,0 +1,158 @@
+// The search of the jump key: regeneration is followed on a copy of the state to the next unprotected characters.
+//
+// The contracts cite `specs/Jump.antt`.
+use device::State;
+use fields::Field;
+use look::Look;
+use orders::Mode;
+use orders::Size;
+use seek::Spot;
+use step::Stepped;
+ghost use mathlib.Core.Path.{_≡_};
+ghost use mathlib.Core.Bool.{not, _&&_};
+ghost use Rattle.step.specs.Step.{at};
+ghost use Rattle.seek.specs.Seek.{codeAt, orderAt};
+ghost use Rattle.fields.specs.Fields.{codeField};
+ghost use Rattle.jump.specs.Jump.{openIn, landingBy, steppedBy, hopBy, hopOf, jumpFrom, stepsIn, jumpOf};
+
+// What a step of the search makes of the state: the search's end, or the state to go on with.
+pub enum Hop {
+    Ends(Spot),
+    On(State),
+}
+
+// Whether characters stand in a field and are not protected.
+fn is_open(field: Field) -> bool
+    ensures { λ r. ⌜ r ≡ openIn field ⌝ }
+{
+    match field {
+        Field::Outside => false,
+        Field::Inside(_, shut) => !shut,
+    }
+}
+
+// Whether the order at a place enters characters that are not protected.
+fn enters_open(words: &[u16; 8192], size: Size, at: usize) -> bool
+    ensures { λ r. ⌜ r ≡ openIn (codeField (codeAt (now (words .entry)) size at)) ⌝ }
+{
+    is_open(fields::code_field(seek::code_at(words, size, at)))
+}
+
+// Whether the cursor lands behind the order at a place.
+fn lands(words: &[u16; 8192], size: Size, at: usize, next: usize) -> bool
+    ensures { λ r. ⌜ r ≡ (openIn (codeField (codeAt (now (words .entry)) size at)) && not (orderAt (now (words .entry)) size next)) ⌝ }
+{
+    if enters_open(words, size, at) {
+        !seek::order_at(words, size, next)
+    } else {
+        false
+    }
+}
+
+// Where a look's order takes the cursor.
+fn landing(words: &[u16; 8192], state: State, look: Look) -> Spot
+    ensures { λ r. ⌜ r ≡ landingBy (now (words .entry)) state look ⌝ }
+{
+    let size = state.size;
+    match look {
+        Look::Enter(_, next) => {
+            if lands(words, size, state.address, next) {
+                Spot::At(orders::wrap(size, next))
+            } else {
+                Spot::Nowhere
+            }
+        }
+        Look::Fault(_) => Spot::Nowhere,
+        Look::Check(_) => Spot::Nowhere,
+        Look::Pass(_) => Spot::Nowhere,
+        Look::Timer(_) => Spot::Nowhere,
+        Look::SetPen(_, _) => Spot::Nowhere,
+        Look::End(_) => Spot::Nowhere,
+        Look::Jump(_) => Spot::Nowhere,
+        Look::Either(_, _) => Spot::Nowhere,
+        Look::Two(_, _, _) => Spot::Nowhere,
+        Look::Four(_, _, _, _, _) => Spot::Nowhere,
+    }
+}
+
+// What the search makes of a step.
+fn stepped_by(next: Stepped) -> Hop
+    ensures { λ r. ⌜ r ≡ steppedBy next ⌝ }
+{
+    match next {
+        Stepped::Goes(state) => Hop::On(state),
+        Stepped::Stops(_, _) => Hop::Ends(Spot::Nowhere),
+    }
+}
+
+// What the search makes of a step and of where its order takes the cursor.
+fn hop_by(next: Stepped, landing: Spot) -> Hop
+    ensures { λ r. ⌜ r ≡ hopBy next landing ⌝ }
+{
+    match landing {
+        Spot::At(a) => Hop::Ends(Spot::At(a)),
+        Spot::Nowhere => stepped_by(next),
+    }
+}
+
+// A step of the search.
+fn hop_of(words: &[u16; 8192], state: State) -> Hop
+    ensures { λ r. ⌜ r ≡ hopOf (now (words .entry)) state ⌝ }
+{
+    let look = step::look_here(words, state);
+    let spot = landing(words, state, look);
+    hop_by(step::advance(state, look, 0), spot)
+}
+
+// A search of at most n steps.
+fn jump_from(words: &[u16; 8192], n: usize, start: State) -> Spot
+    ensures { λ r. ⌜ r ≡ jumpFrom (now (words .entry)) n start ⌝ }
+{
+    let mut left = n;
+    let mut state = start;
+    while 0 < left {
+        match hop_of(words, state) {
+            Hop::Ends(spot) => {
+                return spot;
+            }
+            Hop::On(next) => {
+                state = next;
+            }
+        }
+        left -= 1;
+    }
+    Spot::Nowhere
+}
+
+// How many steps are followed.
+fn steps_in(size: Size) -> usize
+    ensures { λ r. ⌜ r ≡ stepsIn size ⌝ }
+{
+    orders::size_of(size) / 2 * 7 * 48
+}
+
+// The state at the cursor's place, in its field's mode.
+fn start_at(state: State, address: usize, mode: Mode) -> State
+    ensures { λ r. ⌜ r ≡ at state address mode ⌝ }
+{
+    let size = state.size;
+    let beam = state.beam;
+    let pen = state.pen;
+    State {
+        size: size,
+        address: address,
+        mode: mode,
+        running: state.running,
+        beam: beam,
+        pen: pen,
+    }
+}
+
+// Where jump takes a cursor: nowhere where it stays.
+pub fn jump_to(words: &[u16; 8192], state: State, cursor: usize, mode: Mode) -> Spot
+    ensures { λ r. ⌜ r ≡ jumpOf (now (words .entry)) state cursor mode ⌝ }
+{
+    let size = state.size;
+    let start = start_at(state, seek::even(size, cursor), mode);
+    jump_from(words, steps_in(size), start)
+}

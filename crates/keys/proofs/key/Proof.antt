@@ -1,0 +1,39 @@
+use Rattle.keys.specs.Keys.{keyOf}
+use borrow.Author.Needs.{needs}
+use Rattle.keys.proofs.key.Statement.{statement}
+use Rattle.keys.proofs.key.Tie as tie
+
+key-numbered-requires : tie.Need-key-numbered-requires
+key-numbered-requires c κs = search needs
+
+enum-known-refusal : tie.Need-enum-known-refusal
+enum-known-refusal c = search needs
+
+enum-known-press : tie.Need-enum-known-press
+enum-known-press c = search needs
+
+cursor-in-requires : tie.Need-cursor-in-requires
+cursor-in-requires c κs = search needs
+
+pressed-requires : tie.Need-pressed-requires
+pressed-requires c κs = search needs
+
+returns : tie.Need-returns
+unfolding keyOf
+returns c = simp (← c .before .before .before .key-numbered .ensures, c .before .refusal .given .1)
+
+returns-2 : tie.Need-returns-2
+unfolding keyOf
+returns-2 c = simp (← c .before .before .before .before .before .before .before .before .key-numbered .ensures, c .before .before .before .before .before .before .press .given .1) (simp (c .before .cursor-in .ensures) at (c .pressed .ensures))
+
+pub key-spec : {M : Type 1} → statement M
+key-spec =
+    tie.close
+    (tie.spec
+    key-numbered-requires
+    enum-known-refusal
+    enum-known-press
+    cursor-in-requires
+    pressed-requires
+    returns
+    returns-2)

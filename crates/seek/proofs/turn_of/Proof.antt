@@ -1,0 +1,124 @@
+use borrow.Author.Needs.{needs}
+use Rattle.seek.proofs.turn_of.Statement.{statement}
+use Rattle.seek.proofs.turn_of.Tie as tie
+
+enum-told : tie.Need-enum-told
+enum-told c = search needs
+
+cursor-at-requires : tie.Need-cursor-at-requires
+cursor-at-requires c κs = search needs
+
+here-requires : tie.Need-here-requires
+here-requires c κs = search needs
+
+next-requires : tie.Need-next-requires
+next-requires c κs = search needs
+
+enum-told-2 : tie.Need-enum-told-2
+enum-told-2 c = search needs
+
+order-at-requires : tie.Need-order-at-requires
+order-at-requires c κs = search needs
+
+here-requires-2 : tie.Need-here-requires-2
+here-requires-2 c κs = search needs
+
+back-requires : tie.Need-back-requires
+back-requires c κs = search needs
+
+enum-told-3 : tie.Need-enum-told-3
+enum-told-3 c = search needs
+
+order-at-requires-2 : tie.Need-order-at-requires-2
+order-at-requires-2 c κs = search needs
+
+returns : tie.Need-returns
+returns c = simp (c .before .before .enum-told3 .given .1, ← c .before .order-at2 .ensures, c .if3 .taken)
+
+line-at-requires : tie.Need-line-at-requires
+line-at-requires c κs = search needs
+
+next-requires-2 : tie.Need-next-requires-2
+next-requires-2 c κs = search needs
+
+here-requires-3 : tie.Need-here-requires-3
+here-requires-3 c κs = search needs
+
+enum-told-4 : tie.Need-enum-told-4
+enum-told-4 c = search needs
+
+back-requires-2 : tie.Need-back-requires-2
+back-requires-2 c κs = search needs
+
+order-at-requires-3 : tie.Need-order-at-requires-3
+order-at-requires-3 c κs = search needs
+
+returns-2 : tie.Need-returns-2
+returns-2 c = simp (c .before .before .before .enum-told4 .given .1, ← c .before .before .back2 .ensures, ← c .before .order-at3 .ensures, c .if5 .taken)
+
+line-at-requires-2 : tie.Need-line-at-requires-2
+line-at-requires-2 c κs = search needs
+
+back-requires-3 : tie.Need-back-requires-3
+back-requires-3 c κs = search needs
+
+here-requires-4 : tie.Need-here-requires-4
+here-requires-4 c κs = search needs
+
+returns-3 : tie.Need-returns-3
+returns-3 c = simp (c .before .before .before .enum-told .given .1, ← c .before .before .cursor-at .ensures, c .before .if1 .taken) (c .here .ensures)
+
+returns-4 : tie.Need-returns-4
+returns-4 c = simp (c .before .before .before .enum-told .given .1, ← c .before .before .cursor-at .ensures, c .before .if1 .left, c .next .ensures)
+
+returns-5 : tie.Need-returns-5
+returns-5 c = simp (c .before .before .before .enum-told2 .given .1, ← c .before .before .order-at .ensures, c .before .if2 .taken) (c .here2 .ensures)
+
+returns-6 : tie.Need-returns-6
+returns-6 c = simp (c .before .before .before .enum-told2 .given .1, ← c .before .before .order-at .ensures, c .before .if2 .left, c .back .ensures)
+
+returns-7 : tie.Need-returns-7
+returns-7 c = simp (c .before .before .before .before .before .enum-told3 .given .1, ← c .before .before .before .before .order-at2 .ensures, c .before .before .before .if3 .left, ← c .before .before .line-at .ensures, c .before .if4 .taken, c .next2 .ensures)
+
+returns-8 : tie.Need-returns-8
+returns-8 c = simp (c .before .before .before .before .before .enum-told3 .given .1, ← c .before .before .before .before .order-at2 .ensures, c .before .before .before .if3 .left, ← c .before .before .line-at .ensures, c .before .if4 .left) (c .here3 .ensures)
+
+returns-9 : tie.Need-returns-9
+returns-9 c = simp (c .before .before .before .before .before .before .enum-told4 .given .1, ← c .before .before .before .before .before .back2 .ensures, ← c .before .before .before .before .order-at3 .ensures, c .before .before .before .if5 .left, ← c .before .before .line-at2 .ensures, c .before .if6 .taken, c .back3 .ensures)
+
+returns-10 : tie.Need-returns-10
+returns-10 c = simp (c .before .before .before .before .before .before .enum-told4 .given .1, ← c .before .before .before .before .before .back2 .ensures, ← c .before .before .before .before .order-at3 .ensures, c .before .before .before .if5 .left, ← c .before .before .line-at2 .ensures, c .before .if6 .left) (c .here4 .ensures)
+
+pub turn-of-spec : {M : Type 1} → statement M
+turn-of-spec =
+    tie.close
+    (tie.spec
+    enum-told
+    cursor-at-requires
+    here-requires
+    next-requires
+    enum-told-2
+    order-at-requires
+    here-requires-2
+    back-requires
+    enum-told-3
+    order-at-requires-2
+    returns
+    line-at-requires
+    next-requires-2
+    here-requires-3
+    enum-told-4
+    back-requires-2
+    order-at-requires-3
+    returns-2
+    line-at-requires-2
+    back-requires-3
+    here-requires-4
+    returns-3
+    returns-4
+    returns-5
+    returns-6
+    returns-7
+    returns-8
+    returns-9
+    returns-10)

@@ -1,0 +1,79 @@
+-- The searches through a buffer's words that the keyboard makes (C-13): for the cursor, for the order of a field, and for the
+-- location that the cursor goes to (000 p.21, 32, 35 and 36; 001 3-15 to 3-17, Figures 4-5 to 4-14).
+use Prim.Native.Nat.{ℕ, zero, suc, _+_, _-_, _%_}
+use mathlib.Core.Bool.{Bool, cond, _&&_}
+use mathlib.Core.List.{List}
+use lib.Dec.{eqb}
+use lib.ListN.{getD}
+use Rattle.location.specs.Location.{dataOf, cursorOf}
+use Rattle.orders.specs.Orders.{sizeOf, wrapOf}
+use Rattle.orders.specs.declared.Size.{Size}
+use Rattle.look.specs.Look.{aheadOf}
+use Rattle.seek.specs.declared.Spot.{Spot}
+use Rattle.seek.specs.declared.Spot.the-variants.{At, Nowhere}
+use Rattle.seek.specs.declared.Sought.{Sought}
+use Rattle.seek.specs.declared.Sought.the-variants.{Cursor, Order, Forward, Backward}
+use Rattle.seek.specs.declared.Turn.{Turn}
+use Rattle.seek.specs.declared.Turn.the-variants.{Ends, On}
+
+-- the word and the data at an address: "Addresses go round at the buffer's size."
+abbrev pub wordAt : List ℕ → Size → ℕ → ℕ
+wordAt words s a = getD words (wrapOf s a) 0
+
+unfoldable pub byteAt : List ℕ → Size → ℕ → ℕ
+byteAt words s a = dataOf (wordAt words s a)
+
+-- the code of an order at A
+unfoldable pub codeAt : List ℕ → Size → ℕ → ℕ
+codeAt words s a = byteAt words s (aheadOf s a 1)
+
+-- the address k before A, round the buffer
+abbrev pub backOf : Size → ℕ → ℕ → ℕ
+backOf s a k = wrapOf s (wrapOf s a + (sizeOf s - k))
+
+-- the even address of a location's pair
+abbrev pub evenOf : Size → ℕ → ℕ
+evenOf s a = wrapOf s a - wrapOf s a % 2
+
+-- "A 2A at an odd address is data": the first byte of an order is a 2A at an even address
+unfoldable pub orderAt : List ℕ → Size → ℕ → Bool
+orderAt words s a = eqb (wrapOf s a % 2) 0 && eqb (byteAt words s a) 0x2A
+
+-- "Code 15 is a new line by itself."
+unfoldable pub lineAt : List ℕ → Size → ℕ → Bool
+lineAt words s a = eqb (byteAt words s a) 0x15
+
+-- what each search makes of an address. The cursor: "where several are set, the lowest address counts (house)". The order of a
+-- field: back by two. Forwards: a mode code is not stepped into (Figure 4-7), a new line is passed (Figure 4-6). Backwards: the
+-- field's first location is the one behind the mode code, which is not stepped into (Figure 4-10); a new line is passed (Figure 4-9)
+abbrev pub turnOf : List ℕ → Size → Sought → ℕ → Turn
+turnOf words s Cursor a = cond (cursorOf (wordAt words s a)) (Ends (At (wrapOf s a))) (On (aheadOf s a 1))
+turnOf words s Order a = cond (orderAt words s a) (Ends (At (wrapOf s a))) (On (backOf s a 2))
+turnOf words s Forward a =
+    cond (orderAt words s a) (Ends Nowhere) (cond (lineAt words s a) (On (aheadOf s a 1)) (Ends (At (wrapOf s a))))
+turnOf words s Backward a =
+    cond (orderAt words s (backOf s a 1)) (Ends Nowhere) (cond (lineAt words s a) (On (backOf s a 1)) (Ends (At (wrapOf s a))))
+
+abbrev pub seekBy : (ℕ → Spot) → Turn → Spot
+seekBy more (Ends p) = p
+seekBy more (On a) = more a
+
+-- a search of at most so many addresses, the first of them A
+unfoldable pub seekFrom : List ℕ → Size → Sought → ℕ → ℕ → Spot
+seekFrom words s k zero a = Nowhere
+seekFrom words s k (suc n) a = seekBy (λ b. seekFrom words s k n b) (turnOf words s k a)
+
+-- the cursor: the lowest location with the cursor bit
+unfoldable pub cursorIn : List ℕ → Size → Spot
+cursorIn words s = seekFrom words s Cursor (sizeOf s) 0
+
+-- the order that a location stands behind: "back by two, round the buffer, to the nearest 2A at an even address"
+unfoldable pub orderBehind : List ℕ → Size → ℕ → Spot
+orderBehind words s a = seekFrom words s Order (sizeOf s) (backOf s (evenOf s a) 2)
+
+-- where the cursor goes from A by advance, and by backspace; nowhere where it stays
+unfoldable pub forwardOf : List ℕ → Size → ℕ → Spot
+forwardOf words s a = seekFrom words s Forward (sizeOf s) (aheadOf s a 1)
+
+unfoldable pub backwardOf : List ℕ → Size → ℕ → Spot
+backwardOf words s a = seekFrom words s Backward (sizeOf s) (backOf s a 1)

@@ -1,0 +1,1 @@
+// Theorems only: what typing at the cursor never does. They stand in `specs/`.
