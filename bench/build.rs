@@ -1,0 +1,18 @@
+//! With the feature `proved`, tells the linker where libcapi.a is: `KHAONUAT_LIB`, or the
+//! repository's own target/staticlib.
+
+use std::{env, path::PathBuf};
+
+fn main() {
+    println!("cargo:rerun-if-env-changed=KHAONUAT_LIB");
+    if env::var_os("CARGO_FEATURE_PROVED").is_none() {
+        return;
+    }
+    let folder = match env::var_os("KHAONUAT_LIB") {
+        Some(folder) => PathBuf::from(folder),
+        None => PathBuf::from(env::var_os("CARGO_MANIFEST_DIR").expect("cargo sets it")).join("../target/staticlib"),
+    };
+    println!("cargo:rerun-if-changed={}", folder.join("libcapi.a").display());
+    println!("cargo:rustc-link-search=native={}", folder.display());
+    println!("cargo:rustc-link-lib=static=capi");
+}

@@ -1,0 +1,214 @@
+//! The beam and what a step draws with it: 01, "Beam" and "Drawn item".
+
+use crate::orders::{Mode, SM};
+
+#[derive(Clone, Copy, PartialEq, Eq, Debug)]
+pub struct Beam {
+    pub x: u16,
+    pub y: u16,
+}
+
+#[derive(Clone, Copy, PartialEq, Eq, Debug)]
+pub enum CharacterSize {
+    Basic,
+    Large,
+}
+
+#[derive(Clone, Copy, PartialEq, Eq, Debug)]
+pub enum Item {
+    Point { at: Beam, address: u16 },
+    Vector { from: Beam, to: Beam, address: u16 },
+    Character { at: Beam, code: u8, size: CharacterSize, address: u16 },
+    Cursor { at: Beam, code: u8, size: CharacterSize, address: u16 },
+}
+
+impl Item {
+    /// The item's eight numbers: kind, from X, from Y, to X, to Y, code, size, address.
+    pub fn numbers(self) -> [u16; 8] {
+        match self {
+            Item::Point { at, address } => [1, at.x, at.y, at.x, at.y, 0, 0, address],
+            Item::Vector { from, to, address } => [2, from.x, from.y, to.x, to.y, 0, 0, address],
+            Item::Character { at, code, size, address } => {
+                [3, at.x, at.y, at.x, at.y, code.into(), size.number(), address]
+            }
+            Item::Cursor { at, code, size, address } => {
+                [4, at.x, at.y, at.x, at.y, code.into(), size.number(), address]
+            }
+        }
+    }
+}
+
+impl CharacterSize {
+    fn number(self) -> u16 {
+        match self {
+            CharacterSize::Basic => 1,
+            CharacterSize::Large => 2,
+        }
+    }
+
+    fn spacing(self) -> u16 {
+        match self {
+            CharacterSize::Basic => 14,
+            CharacterSize::Large => 21,
+        }
+    }
+
+    fn line(self) -> u16 {
+        match self {
+            CharacterSize::Basic => 20,
+            CharacterSize::Large => 30,
+        }
+    }
+}
+
+impl Beam {
+    fn new_line(self, size: CharacterSize) -> Beam {
+        Beam { x: 0, y: self.y.checked_sub(size.line()).unwrap_or(1023) }
+    }
+
+    fn space(self, size: CharacterSize) -> Beam {
+        let x = self.x + size.spacing();
+        if x > 1023 {
+            self.new_line(size)
+        } else {
+            Beam { x, y: self.y }
+        }
+    }
+}
+
+/// The lent list: eight numbers for each item.
+pub struct List<'a> {
+    room: &'a mut [[u16; 8]],
+    pub count: usize,
+}
+
+impl<'a> List<'a> {
+    pub fn new(room: &'a mut [[u16; 8]]) -> List<'a> {
+        List { room, count: 0 }
+    }
+
+    /// Puts the items at the list's end if they all fit, and says whether they did.
+    pub fn put(&mut self, items: &[Item]) -> bool {
+        let Some(room) = self.room.get_mut(self.count..self.count + items.len()) else { return false };
+        for (place, item) in room.iter_mut().zip(items) {
+            *place = item.numbers();
+        }
+        self.count += items.len();
+        true
+    }
+}
+
+/// What a step of data does, if its items fit.
+#[derive(Clone, Copy, PartialEq, Eq, Debug)]
+pub struct Drawn {
+    /// The beam after it.
+    pub beam: Beam,
+    /// The address of the item that the pen has detected, if it has.
+    pub detected: Option<u16>,
+}
+
+/// A twelve-bit coordinate, its two lowest bits dropped.
+pub fn coordinate(high: u8, low: u8) -> u16 {
+    u16::from_be_bytes([high & 0x0F, low]) >> 2
+}
+
+/// Adds an increment: bits 0 to 6 as a signed number; the sum keeps ten bits.
+pub fn add_increment(coordinate: u16, increment: u8) -> u16 {
+    let distance = i16::from(increment as i8 >> 1);
+    coordinate.wrapping_add_signed(distance) & 1023
+}
+
+/// What a step of data is given beside its bytes. `sight` is what the pen would detect, 0 for nothing.
+#[derive(Clone, Copy)]
+pub struct Setting {
+    pub address: u16,
+    pub beam: Beam,
+    pub sight: u8,
+}
+
+/// Four bytes of data in point or vector mode. Nothing if the list has no room.
+pub fn draw_coordinates(bytes: [u8; 4], vector: bool, setting: Setting, list: &mut List) -> Option<Drawn> {
+    let to = Beam { x: coordinate(bytes[0], bytes[1]), y: coordinate(bytes[2], bytes[3]) };
+    draw_move(to, bytes[0] & 0x40 != 0, vector, setting, list)
+}
+
+/// A word of data in an incremental mode.
+pub fn draw_increment(bytes: [u8; 2], vector: bool, setting: Setting, list: &mut List) -> Option<Drawn> {
+    let Beam { x, y } = setting.beam;
+    let to = Beam { x: add_increment(x, bytes[0]), y: add_increment(y, bytes[1]) };
+    draw_move(to, bytes[1] & 1 != 0, vector, setting, list)
+}
+
+fn draw_move(to: Beam, blanked: bool, vector: bool, setting: Setting, list: &mut List) -> Option<Drawn> {
+    let Setting { address, beam: from, sight } = setting;
+    if blanked {
+        return Some(Drawn { beam: to, detected: None });
+    }
+    let item = if vector { Item::Vector { from, to, address } } else { Item::Point { at: to, address } };
+    list.put(&[item]).then_some(Drawn { beam: to, detected: (sight == 1).then_some(address) })
+}
+
+/// A word of data in a character mode.
+pub fn draw_characters(
+    bytes: [u8; 2],
+    cursors: [bool; 2],
+    size: CharacterSize,
+    setting: Setting,
+    list: &mut List,
+) -> Option<Drawn> {
+    let mut items = [Item::Point { at: setting.beam, address: 0 }; 4];
+    let (mut count, mut characters) = (0, 0);
+    let mut drawn = Drawn { beam: setting.beam, detected: None };
+    for i in 0..2 {
+        let (code, at, address) = (bytes[i], drawn.beam, setting.address + i as u16);
+        match code {
+            NULL => continue,
+            NEW_LINE => {
+                drawn.beam = at.new_line(size);
+                continue;
+            }
+            BLANK | SM => {}
+            _ => {
+                items[count] = Item::Character { at, code, size, address };
+                count += 1;
+                characters += 1;
+                if characters == setting.sight {
+                    drawn = Drawn { beam: at.space(size), detected: Some(address) };
+                    break;
+                }
+            }
+        }
+        if cursors[i] {
+            items[count] = Item::Cursor { at, code, size, address };
+            count += 1;
+        }
+        drawn.beam = at.space(size);
+    }
+    list.put(&items[..count]).then_some(drawn)
+}
+
+const NULL: u8 = 0x00;
+const NEW_LINE: u8 = 0x15;
+const BLANK: u8 = 0x40;
+
+pub fn character_size(mode: Mode) -> CharacterSize {
+    match mode {
+        Mode::Large => CharacterSize::Large,
+        _ => CharacterSize::Basic,
+    }
+}
+
+#[cfg(test)]
+mod tests {
+    use super::*;
+
+    #[test]
+    fn measured_examples() {
+        assert_eq!([coordinate(0, 3), coordinate(0, 4), coordinate(0x0F, 0xFF)], [0, 1, 1023]);
+        assert_eq!([0x7E, 0x80, 0xFE].map(|b| add_increment(100, b)), [163, 36, 99]);
+        let space = |x, size| Beam { x, y: 500 }.space(size);
+        assert_eq!(space(1008, CharacterSize::Basic), Beam { x: 1022, y: 500 });
+        assert_eq!(space(1022, CharacterSize::Basic), Beam { x: 0, y: 480 });
+        assert_eq!(space(1008, CharacterSize::Large), Beam { x: 0, y: 470 });
+    }
+}

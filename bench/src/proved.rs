@@ -1,0 +1,151 @@
+//! The proved side: what libcapi.a exports, wrapped in safe functions. This is the one file that
+//! knows the boundary. Nothing checks these declarations against the Rattle source.
+//!
+//! On the Rattle side, with `#[no_mangle] pub extern "C"`:
+//!
+//! ```text
+//! khaonuat_validate(image: &[u8], size: u32, start: u32, store: &mut [u8]) -> u64
+//!     the validator's answer
+//! khaonuat_script(script: &[u8], out: &mut [u8]) -> usize
+//!     one console session from its first line to its last: the bytes it printed into `out`,
+//!     which is lent large enough
+//! khaonuat_run(dump: &[u16], size: u32, start: u16, closed: u8, sights: &[u8], items: &mut [u16]) -> u64
+//!     loads the dump, sets the switch, starts the unit at `start` by the command 27 and runs it;
+//!     `items` has room for its length divided by eight items
+//! ```
+//!
+//! A slice passes as a pointer and a length in elements. Answers in one number, from the top: one
+//! byte that says which, 0 passed or ran, 1 fault, 2 refused, and then
+//!
+//! | Answer | Bits 48 to 55 | Rest |
+//! |---|---|---|
+//! | passed | 0 | bits 0 to 31 the places |
+//! | fault | its number | bits 32 to 47 the address, 0 to 31 the steps |
+//! | ran | why it ended | bits 24 to 47 the items, 0 to 23 the steps |
+//! | refused | 0 | bits 0 to 7 its number |
+
+use crate::device::{End, Ran, Refused};
+use crate::validator::Verdict;
+
+/// The proved implementation, if it is linked in.
+#[cfg(feature = "proved")]
+pub struct Proved(());
+
+#[cfg(not(feature = "proved"))]
+pub enum Proved {}
+
+#[cfg(feature = "proved")]
+mod ffi {
+    extern "C" {
+        pub fn khaonuat_validate(
+            image: *const u8,
+            image_length: usize,
+            size: u32,
+            start: u32,
+            store: *mut u8,
+            store_length: usize,
+        ) -> u64;
+        pub fn khaonuat_script(script: *const u8, script_length: usize, out: *mut u8, out_length: usize) -> usize;
+        pub fn khaonuat_run(
+            dump: *const u16,
+            dump_length: usize,
+            size: u32,
+            start: u16,
+            closed: u8,
+            sights: *const u8,
+            sights_length: usize,
+            items: *mut u16,
+            items_length: usize,
+        ) -> u64;
+    }
+}
+
+#[cfg(feature = "proved")]
+impl Proved {
+    pub fn linked() -> Option<Proved> {
+        Some(Proved(()))
+    }
+
+    pub fn validate(&self, image: &[u8], size: u32, start: u32, store: &mut [u8]) -> Verdict {
+        // SAFETY: both slices are lent for the call, and the callee is proved to keep to them.
+        let answer = unsafe {
+            ffi::khaonuat_validate(image.as_ptr(), image.len(), size, start, store.as_mut_ptr(), store.len())
+        };
+        verdict_of(answer)
+    }
+
+    /// The length of what was printed.
+    pub fn script(&self, script: &[u8], out: &mut [u8]) -> usize {
+        // SAFETY: as above.
+        unsafe { ffi::khaonuat_script(script.as_ptr(), script.len(), out.as_mut_ptr(), out.len()) }
+    }
+
+    pub fn run(
+        &self,
+        dump: &[u16],
+        size: u32,
+        start: u16,
+        closed: bool,
+        sights: &[u8],
+        list: &mut [[u16; 8]],
+    ) -> Result<Ran, Refused> {
+        let items = list.as_flattened_mut();
+        // SAFETY: as above.
+        let answer = unsafe {
+            ffi::khaonuat_run(
+                dump.as_ptr(),
+                dump.len(),
+                size,
+                start,
+                closed.into(),
+                sights.as_ptr(),
+                sights.len(),
+                items.as_mut_ptr(),
+                items.len(),
+            )
+        };
+        ran_of(answer)
+    }
+}
+
+#[cfg(not(feature = "proved"))]
+impl Proved {
+    pub fn linked() -> Option<Proved> {
+        None
+    }
+
+    pub fn validate(&self, _: &[u8], _: u32, _: u32, _: &mut [u8]) -> Verdict {
+        match *self {}
+    }
+
+    pub fn script(&self, _: &[u8], _: &mut [u8]) -> usize {
+        match *self {}
+    }
+
+    pub fn run(&self, _: &[u16], _: u32, _: u16, _: bool, _: &[u8], _: &mut [[u16; 8]]) -> Result<Ran, Refused> {
+        match *self {}
+    }
+}
+
+#[cfg_attr(not(feature = "proved"), allow(dead_code))]
+fn verdict_of(answer: u64) -> Verdict {
+    match answer >> 56 {
+        0 => Verdict::Passed { places: answer as u32 },
+        1 => Verdict::Fault { fault: (answer >> 48) as u8, at: (answer >> 32) as u16, after: answer as u32 },
+        2 => Verdict::Refused(answer as u8),
+        _ => panic!("no answer of the validator: {answer:#018x}"),
+    }
+}
+
+#[cfg_attr(not(feature = "proved"), allow(dead_code))]
+fn ran_of(answer: u64) -> Result<Ran, Refused> {
+    match answer >> 56 {
+        0 => Ok(Ran {
+            steps: (answer & 0xFF_FFFF) as usize,
+            end: End::of_number((answer >> 48) as u8).unwrap_or_else(|| panic!("no end of a run: {answer:#018x}")),
+            items: (answer >> 24 & 0xFF_FFFF) as usize,
+        }),
+        2 => Err(Refused(answer as u8)),
+        _ => panic!("no answer of a run: {answer:#018x}"),
+    }
+}

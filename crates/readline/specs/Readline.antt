@@ -1,0 +1,33 @@
+-- Lines of an input that is read through a window: up to 40,000 bytes, ended by a newline or by the input.
+use Prim.Native.Nat.{ℕ, _≤_, _<_}
+use mathlib.Core.Path.{_≡_}
+use mathlib.Core.Bool.{cond}
+use mathlib.Core.List.{List}
+use lib.ListN.{length}
+use lib.Dec.{leb, eqb}
+use Rattle.bytes.specs.Bytes.{indexOf}
+use Rattle.stream.specs.Stream.{heldOf, pastOf}
+use Rattle.stream.specs.declared.Window.{Window}
+use Rattle.readline.specs.declared.Line.{Line}
+use Rattle.readline.specs.declared.Line.the-variants.{Whole, Long, End}
+
+-- a line of so many bytes at the front of a window: one longer than 40,000 bytes is passed over with its newline
+abbrev pub sizedOf : ℕ → Window → Line
+sizedOf count window = cond (leb count 40000) (Whole count window) (Long (pastOf (pastOf window count) 1))
+
+-- where the input has ended, the last line may want its newline
+abbrev pub endedOf : ℕ → Window → Line
+endedOf count window = cond (eqb count 0) End (sizedOf count window)
+
+-- a line that is given ends at the first newline of the window, or at its end
+abbrev pub Told : List ℕ → Line → Type 0
+Told buffer (Whole count window) = (count ≤ 40000) × (count ≡ indexOf 10 (heldOf buffer window))
+Told buffer (Long window) = Unit {0}
+Told buffer End = Unit {0}
+
+-- what reading a line leaves: the line that is told, and one that the window holds with its newline is found with
+-- nothing read
+pub record Lined (before : List ℕ) (window : Window) (after : List ℕ) (line : Line) : Type 0 where
+  pub told : Told after line
+  pub whole : indexOf 10 (heldOf before window) < length (heldOf before window)
+      → (after ≡ before) × (line ≡ sizedOf (indexOf 10 (heldOf before window)) window)
