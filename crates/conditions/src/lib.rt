@@ -57,7 +57,13 @@ fn put_pen(buffer: &mut [u8], at: usize, pen: Pen) -> usize
 {
     let mode = pen.mode;
     let first = put_pen_mode(buffer, at, mode);
-    let second = phrases::put_either(buffer, first, pen.closed, b" switch closed", b" switch open");
+    let second = phrases::put_either(
+        buffer,
+        first,
+        pen.closed,
+        b" switch closed",
+        b" switch open",
+    );
     phrases::put_either(buffer, second, pen.armed, b" armed yes", b" armed no")
 }
 
