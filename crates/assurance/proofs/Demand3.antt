@@ -28,7 +28,7 @@ use Rattle.roundtrips.specs.RoundTrips.{Bytes}
 use Rattle.roundtrips.specs.Images.{dumpOf}
 use Rattle.roundtrips.proofs.Images.{dump-image, dump-loaded}
 use Rattle.roundtrips.proofs.RoundTrips.{written-is, fresh-quiet, written-image}
-use Rattle.assurance.specs.Promise.{Event, AllHarmless, Never, Loaded, bytesOf}
+use Rattle.assurance.specs.Promise.{Event, Never, Loaded, bytesOf}
 use Rattle.assurance.specs.Alarm.{Walk, Alarm}
 use Rattle.assurance.proofs.Events.{never}
 
@@ -43,26 +43,26 @@ module _ (image : List ℕ) (size : Size) (start : ℕ) where
       (record { carries = carries; within = record { same = refl; reached = λ r. (zero, refl) } })
 
   -- "A device of the same size, loaded with a passed image and started there, never stops for a fault, whatever the pen sees, until it
-  -- is stopped, started anew or its buffer is altered."
+  -- is stopped, started anew or its buffer is altered."; it "ends at the first key that stores"
   pub promise : (c : ℕ) → Right image (record { size = size }) start (Passed c) → start % 2 ≡ 0 → start < sizeOf size
       → (d : Device) → d .state .size ≡ size → Carries (d .words) image size → d .status ≡ 0 → (room : List ℕ)
-      → (es : List Event) → AllHarmless es → Never (commandOf d 0x27 (bytesOf start) room .answered .device) es
-  promise c right even inside d same carries waiting room es harmless =
-      never image size start (right .sound) _ (started d same carries waiting even inside room) es harmless
+      → (es : List Event) → Never (commandOf d 0x27 (bytesOf start) room .answered .device) es
+  promise c right even inside d same carries waiting room es =
+      never image size start (right .sound) _ (started d same carries waiting even inside room) es
 
   module _ (c : ℕ) (right : Right image (record { size = size }) start (Passed c)) (even : start % 2 ≡ 0) (inside : start < sizeOf size) (bytes : Bytes image) (fits : length image ≤ sizeOf size) where
     -- the promise to a unit that is loaded with the image by a dump
-    pub promise-dump : (d : Device) (room : List ℕ) (es : List Event) → AllHarmless es
+    pub promise-dump : (d : Device) (room : List ℕ) (es : List Event)
         → Never (commandOf (loadOf d (sizeOf size) (dumpOf size image) .device) 0x27 (bytesOf start) room .answered .device) es
-    promise-dump d room es harmless =
-        rw (dump-loaded d size image bytes fits) (promise c right even inside _ refl (dump-image size image bytes fits) refl room es harmless)
+    promise-dump d room es =
+        rw (dump-loaded d size image bytes fits) (promise c right even inside _ refl (dump-image size image bytes fits) refl room es)
 
     -- the promise to a fresh unit that Write Buffer stores the image into
-    pub promise-written : (room room′ : List ℕ) (es : List Event) → AllHarmless es
+    pub promise-written : (room room′ : List ℕ) (es : List Event)
         → Never (commandOf (commandOf (freshOf size) 0x01 image room .answered .device) 0x27 (bytesOf start) room′ .answered .device) es
-    promise-written room room′ es harmless =
+    promise-written room room′ es =
         promise c right even inside _ (ap (λ (o : Outcome). o .answered .device .state .size) (written-is (freshOf size) image room (fresh-quiet size)))
-        (written-image size image room bytes fits) (ap (λ (o : Outcome). o .answered .device .status) (written-is (freshOf size) image room (fresh-quiet size))) room′ es harmless
+        (written-image size image room bytes fits) (ap (λ (o : Outcome). o .answered .device .status) (written-is (freshOf size) image room (fresh-quiet size))) room′ es
 
 module _ (step : Place → Step Place) where
   -- one step more at a walk's end

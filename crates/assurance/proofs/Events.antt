@@ -7,7 +7,7 @@ use lib.Dec.{eqb, leb}
 use borrow.Author.Tests.{ne-eqb}
 use Rattle.orders.specs.Orders.{wrapOf}
 use Rattle.orders.specs.declared.Size.{Size}
-use Rattle.look.specs.Loaded.{Carries}
+use Rattle.look.specs.Loaded.{Location, Carries}
 use Rattle.pen.specs.Pen.{switched}
 use Rattle.codes.specs.Codes.{classOf, sentBy, allowed}
 use Rattle.codes.specs.declared.Class.{Class}
@@ -18,7 +18,10 @@ use Rattle.commands.specs.Commands.{Outcome, outcome, answers, rejectedOf, wait
 use Rattle.device.specs.declared.State.{State}
 use Rattle.device.specs.declared.Device.{Device}
 use Rattle.device.specs.Device.{switchedOf}
-use Rattle.assurance.specs.Promise.{Event, after, Harmless, Undisturbed, Never, AllHarmless, Within, Loaded}
+use Rattle.keys.specs.Keys.{keyOf}
+use Rattle.typing.specs.Words.{Alike}
+use Rattle.typing.specs.Typing.{storedBy, silent-key, state-stays}
+use Rattle.assurance.specs.Promise.{Event, after, Harmless, Undisturbed, Never, Within, Loaded}
 use Rattle.assurance.proofs.Steps.{Clear}
 use Rattle.assurance.proofs.Runs.{run-fine}
 use Rattle.roundtrips.proofs.Images.{cursor-carries}
@@ -50,7 +53,19 @@ mild code a b c =
     (mild-by (eqb code 0x00 || (leb 0x03 code && leb code 0x04))
     (eqb code 0x02 || (eqb code 0x06 || (eqb code 0x0F || (eqb code 0x12 || eqb code 0x1F)))) (eqb code 0x0B))
 
+-- a word that is alike but for its cursor carries the same byte
+alike-location : {w v b : ℕ} {inside : Bool} → Alike w v → Location w b inside → Location v b inside
+alike-location a l = record { written = a .same-written ∙ l .written; good = λ e. a .still-good (l .good e); byte = λ e. a .same-data ∙ l .byte e }
+
 module _ (image : List ℕ) (size : Size) (start : ℕ) where
+  -- a key that stores nothing
+  key-keeps : (d : Device) → Loaded image size start d → (number : ℕ) → storedBy (keyOf d number .answer) ≡ false → Loaded image size start (keyOf d number .device)
+  key-keeps d l number silent =
+      record {
+        carries = λ a h. alike-location (silent-key d number silent a) (l .carries a h);
+        within = subst (Within image size start) (sym (state-stays d number)) (l .within);
+      }
+
   abbrev Keeps : Outcome → Type 0
   Keeps o = Loaded image size start (o .answered .device)
 
@@ -92,14 +107,15 @@ module _ (image : List ℕ) (size : Size) (start : ℕ) where
     command-keeps code bytes m = command-by (classOf code) m code bytes (sentBy (d .state .size) (classOf code) code bytes)
 
   module _ (clear : Clear image size start) where
-    event-keeps : (d : Device) → Loaded image size start d → (e : Event) → Harmless e → Undisturbed d e × Loaded image size start (after d e)
+    event-keeps : (d : Device) → Loaded image size start d → (e : Event) → Undisturbed d e × (Harmless d e → Loaded image size start (after d e))
     unfolding switchedOf
-    event-keeps d l (Event.ran sights out) h = run-fine image size start clear d l sights out
-    event-keeps d l (Event.switched closed) h = (tt, record { carries = l .carries; within = record { same = l .within .same; reached = l .within .reached } })
-    event-keeps d l Event.halted h = (tt, l)
-    event-keeps d l (Event.commanded code bytes room) h = (tt, command-keeps d l room code bytes (mild code (h .0) (h .1) (h .2)))
+    event-keeps d l (Event.ran sights out) = let f = run-fine image size start clear d l sights out in (f .0, λ h. f .1)
+    event-keeps d l (Event.switched closed) = (tt, λ h. record { carries = l .carries; within = record { same = l .within .same; reached = l .within .reached } })
+    event-keeps d l Event.halted = (tt, λ h. l)
+    event-keeps d l (Event.commanded code bytes room) = (tt, λ h. command-keeps d l room code bytes (mild code (h .0) (h .1) (h .2)))
+    event-keeps d l (Event.keyed number) = (tt, λ h. key-keeps d l number h)
 
-    -- none of a list of harmless events stops a loaded device for a fault
-    pub never : (d : Device) → Loaded image size start d → (es : List Event) → AllHarmless es → Never d es
-    never d l [] h = tt
-    never d l (e ∷ es) h = let k = event-keeps d l e (h .0) in (k .0, never (after d e) (k .1) es (h .1))
+    -- no event stops a loaded device for a fault, until the first that the promise does not outlast
+    pub never : (d : Device) → Loaded image size start d → (es : List Event) → Never d es
+    never d l [] = tt
+    never d l (e ∷ es) = let k = event-keeps d l e in (k .0, λ h. never (after d e) (k .1 h) es)

@@ -1,8 +1,8 @@
 -- Demand 3's promise to a device: "A device of the same size, loaded with a passed image and started there, never stops for a fault,
--- whatever the pen sees, until it is stopped, started anew or its buffer is altered."
+-- whatever the pen sees, until it is stopped, started anew or its buffer is altered." C-13: it "ends at the first key that stores".
 use Prim.Native.Nat.{ℕ, _/_, _%_, _<_}
 use mathlib.Core.Path.{_≡_}
-use mathlib.Core.Bool.{Bool, true}
+use mathlib.Core.Bool.{Bool, true, false}
 use mathlib.Core.List.{List, [], _∷_}
 use Rattle.orders.specs.declared.Size.{Size}
 use Rattle.orders.specs.declared.Mode.the-variants.{Idle}
@@ -19,14 +19,17 @@ use Rattle.step.specs.declared.End.the-variants as end
 use Rattle.run.specs.declared.Outcome.{Outcome}
 use Rattle.run.specs.declared.Outcome.the-variants as outcome
 use Rattle.run.specs.Run.{runOf}
+use Rattle.keys.specs.Keys.{keyOf}
+use Rattle.typing.specs.Typing.{storedBy}
 
--- what may happen to a device: a run with any sights and any room, the switch closed or opened, Halt I/O, and a command with any bytes
--- and any room
+-- what may happen to a device: a run with any sights and any room, the switch closed or opened, Halt I/O, a command with any bytes
+-- and any room, and a key of any number
 pub data Event : Type 0 where
   ran : List ℕ → List ℕ → Event
   switched : Bool → Event
   halted : Event
   commanded : ℕ → List ℕ → List ℕ → Event
+  keyed : ℕ → Event
 
 -- the device after it
 abbrev pub after : Device → Event → Device
@@ -34,14 +37,17 @@ after d (Event.ran sights out) = runOf d sights out .device
 after d (Event.switched closed) = switchedOf d closed
 after d Event.halted = d
 after d (Event.commanded code bytes room) = commandOf d code bytes room .answered .device
+after d (Event.keyed number) = keyOf d number .device
 
--- "until it is stopped, started anew or its buffer is altered": no Set Buffer Address, and no Write Buffer. The cursor commands move
--- cursor bits alone, so the promise holds over them too.
-abbrev pub Harmless : Event → Type 0
-Harmless (Event.ran sights out) = Unit {0}
-Harmless (Event.switched closed) = Unit {0}
-Harmless Event.halted = Unit {0}
-Harmless (Event.commanded code bytes room) = (code ≡ 0x01 → ⊥) × (code ≡ 0x07 → ⊥) × (code ≡ 0x27 → ⊥)
+-- an event that the promise outlasts. "Until it is stopped, started anew or its buffer is altered": no Set Buffer Address, and no Write
+-- Buffer. "Demand 3's assurance to a device ends at the first key that stores": no key that stores a character in the device that it
+-- meets. The cursor commands and all other keys move cursor bits alone, so the promise holds over them too.
+abbrev pub Harmless : Device → Event → Type 0
+Harmless d (Event.ran sights out) = Unit {0}
+Harmless d (Event.switched closed) = Unit {0}
+Harmless d Event.halted = Unit {0}
+Harmless d (Event.commanded code bytes room) = (code ≡ 0x01 → ⊥) × (code ≡ 0x07 → ⊥) × (code ≡ 0x27 → ⊥)
+Harmless d (Event.keyed number) = storedBy (keyOf d number .answer) ≡ false
 
 -- an end that is no fault and no data check
 abbrev pub Sound : End → Type 0
@@ -63,15 +69,12 @@ Undisturbed d (Event.ran sights out) = SoundAnswer (runOf d sights out .answer)
 Undisturbed d (Event.switched closed) = Unit {0}
 Undisturbed d Event.halted = Unit {0}
 Undisturbed d (Event.commanded code bytes room) = Unit {0}
+Undisturbed d (Event.keyed number) = Unit {0}
 
--- none of the events, one after the other, is one
+-- none of the events, one after the other, is such a stop, until the first that the promise does not outlast
 abbrev pub Never : Device → List Event → Type 0
 Never d [] = Unit {0}
-Never d (e ∷ es) = Undisturbed d e × Never (after d e) es
-
-abbrev pub AllHarmless : List Event → Type 0
-AllHarmless [] = Unit {0}
-AllHarmless (e ∷ es) = Harmless e × AllHarmless es
+Never d (e ∷ es) = Undisturbed d e × (Harmless d e → Never (after d e) es)
 
 -- the two bytes that Set Buffer Address sends of an address, high byte first
 abbrev pub bytesOf : ℕ → List ℕ
