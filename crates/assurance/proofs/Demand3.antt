@@ -3,12 +3,10 @@ use Prim.Native.Nat.{ℕ, zero, suc, _%_, _<_, _≤_}
 use native.Mathlib.Nat.{div-add-mod'}
 use native.Mathlib.Numerals.{add-one}
 use native.Mathlib.Omega.{arith}
-use mathlib.Core.Path.{_≡_, refl, sym, ap, _∙_, subst}
-use mathlib.Core.Bool.{true, false}
+use mathlib.Core.Path.{_≡_, refl, ap, _∙_, subst}
 use mathlib.Core.List.{List, [], _∷_, _++_}
-use lib.Dec.{eqb, ltb}
 use lib.ListN.{length, length-append}
-use borrow.Author.Tests.{eq-eqb, ne-eqb, lt-ltb}
+use borrow.Author.Tests.{ne-eqb, lt-ltb}
 use Rattle.orders.specs.Orders.{sizeOf}
 use Rattle.orders.specs.declared.Size.{Size}
 use Rattle.orders.specs.declared.Mode.the-variants.{Idle}
@@ -20,7 +18,7 @@ use Rattle.walks.specs.Places.{place}
 use Rattle.walks.specs.Steps.{Step, Leads, stepOf}
 use Rattle.walks.specs.Walks.{Reach, Right}
 use Rattle.codes.specs.Codes.{classOf, addressIn}
-use Rattle.commands.specs.Commands.{commandOf, triedOf, startedAt}
+use Rattle.commands.specs.Commands.{commandOf, triedOf}
 use Rattle.device.specs.declared.Device.{Device}
 use Rattle.device.specs.Device.{freshOf, loadOf}
 use Rattle.commands.specs.Commands.{Outcome}

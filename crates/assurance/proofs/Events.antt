@@ -1,20 +1,20 @@
 -- Every harmless event keeps a device loaded: it carries its image and is within its walks.
 use Prim.Native.Nat.{ℕ}
 use mathlib.Core.Path.{_≡_, refl, sym, _∙_, subst}
-use mathlib.Core.Bool.{Bool, true, false, cond, not, false≢true, _&&_, _||_}
+use mathlib.Core.Bool.{Bool, true, false, cond, false≢true, _&&_, _||_}
 use mathlib.Core.List.{List, [], _∷_}
 use lib.Dec.{eqb, leb}
 use borrow.Author.Tests.{ne-eqb}
 use Rattle.orders.specs.Orders.{wrapOf}
 use Rattle.orders.specs.declared.Size.{Size}
-use Rattle.look.specs.Loaded.{Location, Carries}
+use Rattle.look.specs.Loaded.{Location}
 use Rattle.pen.specs.Pen.{switched}
 use Rattle.codes.specs.Codes.{classOf, sentBy, allowed}
 use Rattle.codes.specs.declared.Class.{Class}
 use Rattle.codes.specs.declared.Class.the-variants as class
 use Rattle.codes.specs.declared.Sent.{Sent}
 use Rattle.codes.specs.declared.Sent.the-variants as sent
-use Rattle.commands.specs.Commands.{Outcome, outcome, answers, rejectedOf, waitingOf, reset, keptOf, stoppedOf, doneOf, triedOf, commandBy, commandOf}
+use Rattle.commands.specs.Commands.{Outcome, outcome, rejectedOf, reset, stoppedOf, doneOf, triedOf, commandBy, commandOf}
 use Rattle.device.specs.declared.State.{State}
 use Rattle.device.specs.declared.Device.{Device}
 use Rattle.device.specs.Device.{switchedOf}

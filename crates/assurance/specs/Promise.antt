@@ -1,6 +1,6 @@
 -- Demand 3's promise to a device: "A device of the same size, loaded with a passed image and started there, never stops for a fault,
 -- whatever the pen sees, until it is stopped, started anew or its buffer is altered." C-13: it "ends at the first key that stores".
-use Prim.Native.Nat.{ℕ, _/_, _%_, _<_}
+use Prim.Native.Nat.{ℕ, _/_, _%_}
 use mathlib.Core.Path.{_≡_}
 use mathlib.Core.Bool.{Bool, true, false}
 use mathlib.Core.List.{List, [], _∷_}

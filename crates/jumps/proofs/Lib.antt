@@ -1,0 +1,4 @@
+pub mod Different
+pub mod Hops
+pub mod Numbers
+pub mod Bound
