@@ -7,7 +7,8 @@ use mathlib.Core.List.{List}
 use Rattle.orders.specs.declared.Size.{Size}
 use Rattle.orders.specs.declared.Mode.{Mode}
 use Rattle.orders.specs.declared.Mode.the-variants.{Idle}
-use Rattle.look.specs.Look.{faultNumber, imageGroup, wordsGroup, lookOf}
+use Rattle.groups.specs.Groups.{imageGroup, wordsGroup}
+use Rattle.look.specs.Look.{faultNumber, lookOf}
 use Rattle.look.specs.Loaded.{Carries, same-look}
 use Rattle.look.specs.declared.Look.{Look}
 use Rattle.look.specs.declared.Look.the-variants as look

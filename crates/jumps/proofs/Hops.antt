@@ -8,7 +8,7 @@ use lib.Dec.{eqb}
 use Rattle.orders.specs.declared.Size.{Size}
 use Rattle.orders.specs.declared.Mode.{Mode}
 use Rattle.orders.specs.declared.Mode.the-variants.{Idle}
-use Rattle.look.specs.Look.{wordsGroup}
+use Rattle.groups.specs.Groups.{wordsGroup}
 use Rattle.look.specs.declared.Look.{Look}
 use Rattle.look.specs.declared.Look.the-variants as look
 use Rattle.beam.specs.declared.Beam.{Beam}

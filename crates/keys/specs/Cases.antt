@@ -9,7 +9,8 @@ use Rattle.location.specs.Location.{wordOf}
 use Rattle.orders.specs.Orders.{table, findIn, orderOf}
 use Rattle.orders.specs.declared.Size.the-variants.{K4}
 use Rattle.refusals.specs.declared.Refusal.the-variants.{UnknownKey}
-use Rattle.look.specs.Look.{wordsGroup, lookOf}
+use Rattle.groups.specs.Groups.{wordsGroup}
+use Rattle.look.specs.Look.{lookOf}
 use Rattle.pen.specs.Pen.{timed, detects}
 use Rattle.motion.specs.Motion.{motionOf, twoOf, fourOf}
 use Rattle.motion.specs.Codes.{draws}

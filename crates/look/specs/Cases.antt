@@ -13,11 +13,12 @@ use Rattle.orders.specs.declared.Size.the-variants.{K4, K8}
 use Rattle.orders.specs.declared.Mode.{Mode}
 use Rattle.orders.specs.declared.Mode.the-variants as mode
 use Rattle.orders.specs.declared.PenMode.the-variants as pen
-use Rattle.look.specs.declared.Group.{Group}
+use Rattle.groups.specs.declared.Group.{Group}
 use Rattle.look.specs.declared.Fault.the-variants as fault
 use Rattle.look.specs.declared.Look.{Look}
 use Rattle.look.specs.declared.Look.the-variants as look
-use Rattle.look.specs.Look.{imageGroup, wordsGroup, lookOf}
+use Rattle.groups.specs.Groups.{imageGroup, wordsGroup}
+use Rattle.look.specs.Look.{lookOf}
 
 -- where is looked, and what is found
 pub record Case : Type 0 where

@@ -11,7 +11,8 @@ use Rattle.orders.specs.Orders.{sizeOf, wrapOf}
 use Rattle.orders.specs.declared.Size.{Size}
 use Rattle.orders.specs.declared.Size.the-variants.{K4, K8}
 use Rattle.orders.specs.declared.Mode.{Mode}
-use Rattle.look.specs.Look.{aheadOf, groupBy, pairOf, wordsGroup, imageGroup, lookOf}
+use Rattle.groups.specs.Groups.{aheadOf, groupBy, pairOf, wordsGroup, imageGroup}
+use Rattle.look.specs.Look.{lookOf}
 
 -- the word of one location of an image: its byte, good and written, or a word that is not written
 pub record Location (word b : ℕ) (inside : Bool) : Type 0 where

@@ -1,12 +1,9 @@
 -- One step of regeneration over the words of a buffer (01, "One step of regeneration"): what stands at a place, the faults in their
 -- order, and where the step goes. The device and the validator share it.
 use Prim.Native.Nat.{ℕ, _+_, _*_, _%_}
-use mathlib.Core.Bool.{Bool, true, false, cond, _&&_}
-use mathlib.Core.List.{List}
+use mathlib.Core.Bool.{Bool, true, false, cond}
 use lib.Dec.{eqb, ltb}
-use lib.ListN.{length, getD}
-use Rattle.location.specs.Location.{dataOf, writtenOf, goodOf}
-use Rattle.orders.specs.Orders.{sizeOf, wrapOf, orderOf}
+use Rattle.orders.specs.Orders.{sizeOf, orderOf}
 use Rattle.orders.specs.declared.Size.{Size}
 use Rattle.orders.specs.declared.Mode.{Mode}
 use Rattle.orders.specs.declared.Mode.the-variants.{Idle, Point, Vector, IncrementalPoint, IncrementalVector, Basic, Large}
@@ -14,8 +11,9 @@ use Rattle.orders.specs.declared.Follows.{Follows}
 use Rattle.orders.specs.declared.Follows.the-variants as follows
 use Rattle.orders.specs.declared.Found.{Found}
 use Rattle.orders.specs.declared.Found.the-variants.{Order, Missing}
-use Rattle.look.specs.declared.Group.{Group}
-use Rattle.look.specs.declared.Group.the-variants as group
+use Rattle.groups.specs.Groups.{aheadOf}
+use Rattle.groups.specs.declared.Group.{Group}
+use Rattle.groups.specs.declared.Group.the-variants as group
 use Rattle.look.specs.declared.Fault.{Fault}
 use Rattle.look.specs.declared.Fault.the-variants as fault
 use Rattle.look.specs.declared.Look.{Look}
@@ -31,30 +29,6 @@ faultNumber fault.NoRow = 2
 faultNumber fault.OddTarget = 3
 faultNumber fault.FarTarget = 4
 faultNumber fault.OrderForY = 5
-
--- the address k on from A: "Addresses go round at the buffer's size."
-abbrev pub aheadOf : Size → ℕ → ℕ → ℕ
-aheadOf s a k = wrapOf s (wrapOf s a + k)
-
--- A group of two locations. "Each group of bytes is tested for 1 before its bytes are looked at. For the device, parity of a group is
--- tested after fault 1, lowest place first; bad parity stops with Data Check at that byte"
-abbrev pub groupBy : Bool → Bool → Bool → ℕ → ℕ → ℕ → ℕ → Group
-groupBy written good₁ good₂ a₁ a₂ b₁ b₂ =
-    cond written (cond good₁ (cond good₂ (group.Bytes b₁ b₂) (group.Bad a₂)) (group.Bad a₁)) group.Unwritten
-
--- the words w and v at the addresses a and b
-abbrev pub pairOf : ℕ → ℕ → ℕ → ℕ → Group
-pairOf w v a b = groupBy (writtenOf w && writtenOf v) (goodOf w) (goodOf v) a b (dataOf w) (dataOf v)
-
--- the group at A in a buffer's words
-unfoldable pub wordsGroup : List ℕ → Size → ℕ → Group
-wordsGroup words s a = pairOf (getD words (wrapOf s a) 0) (getD words (aheadOf s a 1) 0) (wrapOf s a) (aheadOf s a 1)
-
--- the group at A in an image: "An image is L bytes, written from address 0; all else is unwritten."
-unfoldable pub imageGroup : List ℕ → Size → ℕ → Group
-imageGroup image s a =
-    groupBy (ltb (wrapOf s a) (length image) && ltb (aheadOf s a 1) (length image)) true true (wrapOf s a) (aheadOf s a 1)
-    (getD image (wrapOf s a) 0) (getD image (aheadOf s a 1) 0)
 
 -- what follows an order of length n: the step is done, or wants the next group
 abbrev pub orderBy : Size → ℕ → ℕ → Follows → Begun

@@ -1,25 +1,16 @@
 // One step of regeneration, looked at: what stands at a place of a buffer or of an image, and where the step goes.
 //
 // The contracts cite `specs/Look.antt`, which the device and the validator share.
+use groups::Group;
 use orders::Follows;
 use orders::Found;
 use orders::Mode;
 use orders::PenMode;
 use orders::Size;
 ghost use mathlib.Core.Path.{_≡_};
-ghost use mathlib.Core.Bool.{_&&_};
 ghost use Prim.Native.Nat.{_+_, _*_, _<_};
-ghost use Rattle.look.specs.Look.{faultNumber, aheadOf, groupBy, pairOf, wordsGroup, imageGroup, orderBy, foundBy, dataBy, firstBy, targetBy, targetIn, coordinateIn, lookOf};
-
-// Two locations that are read together.
-pub enum Group {
-    // One of them is unwritten.
-    Unwritten,
-    // The parity at this address is bad.
-    Bad(usize),
-    // Their bytes.
-    Bytes(u8, u8),
-}
+ghost use Rattle.groups.specs.Groups.{wordsGroup, imageGroup};
+ghost use Rattle.look.specs.Look.{faultNumber, orderBy, foundBy, dataBy, firstBy, targetBy, targetIn, coordinateIn, lookOf};
 
 // The faults of a step.
 pub enum Fault {
@@ -84,91 +75,11 @@ pub fn fault_number(fault: Fault) -> u8
     }
 }
 
-// The address n on.
-fn ahead(size: Size, at: usize, n: u8) -> usize
-    ensures { λ r. ⌜ (r ≡ aheadOf size at n) × (r < 8192) ⌝ }
-{
-    let here = orders::wrap(size, at);
-    orders::wrap(size, here + n as usize)
-}
-
-// The group of two bytes that stand at a and b.
-fn group_by(
-    written: bool,
-    good_a: bool,
-    good_b: bool,
-    a: usize,
-    b: usize,
-    byte_a: u8,
-    byte_b: u8,
-) -> Group
-    ensures { λ r. ⌜ r ≡ groupBy written «good_a» «good_b» a b «byte_a» «byte_b» ⌝ }
-{
-    if written {
-        if good_a {
-            if good_b {
-                Group::Bytes(byte_a, byte_b)
-            } else {
-                Group::Bad(b)
-            }
-        } else {
-            Group::Bad(a)
-        }
-    } else {
-        Group::Unwritten
-    }
-}
-
-// Whether both hold.
-fn both(a: bool, b: bool) -> bool
-    ensures { λ r. ⌜ r ≡ a && b ⌝ }
-{
-    if a { b } else { false }
-}
-
-// The group of the words w and v that stand at a and b.
-fn pair_of(w: u16, v: u16, a: usize, b: usize) -> Group
-    ensures { λ r. ⌜ r ≡ pairOf w v a b ⌝ }
-{
-    group_by(
-        both(location::written_of(w), location::written_of(v)),
-        location::good(w),
-        location::good(v),
-        a,
-        b,
-        location::data_of(w),
-        location::data_of(v),
-    )
-}
-
-// The group at an address of a buffer.
-pub fn group_at(words: &[u16; 8192], size: Size, at: usize) -> Group
-    ensures { λ r. ⌜ r ≡ wordsGroup (now (words .entry)) size at ⌝ }
-{
-    let a = orders::wrap(size, at);
-    let b = ahead(size, at, 1);
-    pair_of(words[a], words[b], a, b)
-}
-
-// The group at an address of an image.
-pub fn group_in(image: &[u8], size: Size, at: usize) -> Group
-    ensures { λ r. ⌜ r ≡ imageGroup (now (image .entry)) size at ⌝ }
-{
-    let a = orders::wrap(size, at);
-    let b = ahead(size, at, 1);
-    if a < image.len() {
-        if b < image.len() {
-            return Group::Bytes(image[a], image[b]);
-        }
-    }
-    Group::Unwritten
-}
-
 // What an order of n bytes makes of a step.
 fn order_by(size: Size, at: usize, n: u8, follows: Follows) -> Begun
     ensures { λ r. ⌜ r ≡ orderBy size at n follows ⌝ }
 {
-    let next = ahead(size, at, n);
+    let next = groups::ahead(size, at, n);
     match follows {
         Follows::Enter(mode) => Begun::Done(Look::Enter(mode, next)),
         Follows::Pass => Begun::Done(Look::Pass(next)),
@@ -198,13 +109,13 @@ fn data_by(size: Size, at: usize, a: u8, b: u8, mode: Mode) -> Begun
     ensures { λ r. ⌜ r ≡ dataBy size at a b mode ⌝ }
 {
     match mode {
-        Mode::Idle => Begun::Done(Look::Two(a, b, ahead(size, at, 2))),
-        Mode::Point => Begun::Coordinate(a, b, ahead(size, at, 4)),
-        Mode::Vector => Begun::Coordinate(a, b, ahead(size, at, 4)),
-        Mode::IncrementalPoint => Begun::Done(Look::Two(a, b, ahead(size, at, 2))),
-        Mode::IncrementalVector => Begun::Done(Look::Two(a, b, ahead(size, at, 2))),
-        Mode::Basic => Begun::Done(Look::Two(a, b, ahead(size, at, 2))),
-        Mode::Large => Begun::Done(Look::Two(a, b, ahead(size, at, 2))),
+        Mode::Idle => Begun::Done(Look::Two(a, b, groups::ahead(size, at, 2))),
+        Mode::Point => Begun::Coordinate(a, b, groups::ahead(size, at, 4)),
+        Mode::Vector => Begun::Coordinate(a, b, groups::ahead(size, at, 4)),
+        Mode::IncrementalPoint => Begun::Done(Look::Two(a, b, groups::ahead(size, at, 2))),
+        Mode::IncrementalVector => Begun::Done(Look::Two(a, b, groups::ahead(size, at, 2))),
+        Mode::Basic => Begun::Done(Look::Two(a, b, groups::ahead(size, at, 2))),
+        Mode::Large => Begun::Done(Look::Two(a, b, groups::ahead(size, at, 2))),
     }
 }
 
@@ -282,13 +193,23 @@ fn coordinate_in(x_high: u8, x_low: u8, next: usize, group: Group) -> Look
 pub fn look_at(words: &[u16; 8192], size: Size, at: usize, mode: Mode) -> Look
     ensures { λ r. ⌜ r ≡ lookOf (wordsGroup (now (words .entry)) size) size at mode ⌝ }
 {
-    match first_by(size, at, mode, group_at(words, size, at)) {
+    match first_by(size, at, mode, groups::group_at(words, size, at)) {
         Begun::Done(look) => look,
         Begun::Target(may, next) => {
-            target_in(size, may, next, group_at(words, size, ahead(size, at, 2)))
+            target_in(
+                size,
+                may,
+                next,
+                groups::group_at(words, size, groups::ahead(size, at, 2)),
+            )
         }
         Begun::Coordinate(a, b, next) => {
-            coordinate_in(a, b, next, group_at(words, size, ahead(size, at, 2)))
+            coordinate_in(
+                a,
+                b,
+                next,
+                groups::group_at(words, size, groups::ahead(size, at, 2)),
+            )
         }
     }
 }
@@ -297,13 +218,23 @@ pub fn look_at(words: &[u16; 8192], size: Size, at: usize, mode: Mode) -> Look
 pub fn look_in(image: &[u8], size: Size, at: usize, mode: Mode) -> Look
     ensures { λ r. ⌜ r ≡ lookOf (imageGroup (now (image .entry)) size) size at mode ⌝ }
 {
-    match first_by(size, at, mode, group_in(image, size, at)) {
+    match first_by(size, at, mode, groups::group_in(image, size, at)) {
         Begun::Done(look) => look,
         Begun::Target(may, next) => {
-            target_in(size, may, next, group_in(image, size, ahead(size, at, 2)))
+            target_in(
+                size,
+                may,
+                next,
+                groups::group_in(image, size, groups::ahead(size, at, 2)),
+            )
         }
         Begun::Coordinate(a, b, next) => {
-            coordinate_in(a, b, next, group_in(image, size, ahead(size, at, 2)))
+            coordinate_in(
+                a,
+                b,
+                next,
+                groups::group_in(image, size, groups::ahead(size, at, 2)),
+            )
         }
     }
 }

@@ -9,7 +9,7 @@ use Rattle.location.specs.Location.{cursorOf}
 use Rattle.orders.specs.Orders.{sizeOf, wrapOf}
 use Rattle.orders.specs.declared.Size.{Size}
 use Rattle.orders.specs.declared.Size.the-variants.{K4, K8}
-use Rattle.look.specs.Look.{aheadOf}
+use Rattle.groups.specs.Groups.{aheadOf}
 use Rattle.seek.specs.declared.Spot.{Spot}
 use Rattle.seek.specs.declared.Spot.the-variants.{At, Nowhere}
 use Rattle.seek.specs.declared.Sought.{Sought}

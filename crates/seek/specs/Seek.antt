@@ -8,7 +8,7 @@ use lib.ListN.{getD}
 use Rattle.location.specs.Location.{dataOf, cursorOf}
 use Rattle.orders.specs.Orders.{sizeOf, wrapOf}
 use Rattle.orders.specs.declared.Size.{Size}
-use Rattle.look.specs.Look.{aheadOf}
+use Rattle.groups.specs.Groups.{aheadOf}
 use Rattle.seek.specs.declared.Spot.{Spot}
 use Rattle.seek.specs.declared.Spot.the-variants.{At, Nowhere}
 use Rattle.seek.specs.declared.Sought.{Sought}

@@ -7,7 +7,7 @@ ghost use mathlib.Core.Path.{_≡_};
 ghost use Prim.Native.Nat.{_<_};
 ghost use Rattle.location.specs.Location.{cursorOf};
 ghost use Rattle.orders.specs.Orders.{wrapOf};
-ghost use Rattle.look.specs.Look.{aheadOf};
+ghost use Rattle.groups.specs.Groups.{aheadOf};
 ghost use Rattle.seek.specs.Seek.{wordAt, byteAt, codeAt, backOf, evenOf, orderAt, lineAt, turnOf, seekFrom, cursorIn, orderBehind, forwardOf, backwardOf};
 
 // A location that was looked for.

@@ -7,7 +7,8 @@ use Rattle.location.specs.Location.{cursorOf}
 use Rattle.orders.specs.Orders.{wrapOf}
 use Rattle.orders.specs.declared.Mode.{Mode}
 use Rattle.orders.specs.declared.Mode.the-variants.{Idle}
-use Rattle.look.specs.Look.{faultNumber, aheadOf, wordsGroup, lookOf}
+use Rattle.groups.specs.Groups.{aheadOf, wordsGroup}
+use Rattle.look.specs.Look.{faultNumber, lookOf}
 use Rattle.look.specs.declared.Look.{Look}
 use Rattle.look.specs.declared.Look.the-variants as look
 use Rattle.beam.specs.declared.Beam.{Beam}

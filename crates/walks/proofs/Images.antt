@@ -7,7 +7,8 @@ use native.Mathlib.Omega.{arith}
 use Rattle.orders.specs.declared.Size.{Size}
 use Rattle.orders.specs.declared.Mode.{Mode}
 use Rattle.orders.specs.declared.Mode.the-variants.{Idle}
-use Rattle.look.specs.Look.{lookOf, imageGroup, faultNumber}
+use Rattle.groups.specs.Groups.{imageGroup}
+use Rattle.look.specs.Look.{lookOf, faultNumber}
 use Rattle.look.specs.declared.Fault.{Fault}
 use Rattle.look.specs.declared.Fault.the-variants as fault
 use Rattle.look.specs.declared.Look.{Look}

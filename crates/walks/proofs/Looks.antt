@@ -18,9 +18,10 @@ use Rattle.orders.specs.declared.Follows.the-variants as follows
 use Rattle.orders.specs.declared.Row.{Row}
 use Rattle.orders.specs.declared.Found.{Found}
 use Rattle.orders.specs.declared.Found.the-variants.{Order, Missing}
-use Rattle.look.specs.Look.{aheadOf, groupBy, imageGroup, orderBy, foundBy, dataBy, firstBy, targetBy, secondBy, lookOf}
-use Rattle.look.specs.declared.Group.{Group}
-use Rattle.look.specs.declared.Group.the-variants as group
+use Rattle.groups.specs.Groups.{aheadOf, groupBy, imageGroup}
+use Rattle.look.specs.Look.{orderBy, foundBy, dataBy, firstBy, targetBy, secondBy, lookOf}
+use Rattle.groups.specs.declared.Group.{Group}
+use Rattle.groups.specs.declared.Group.the-variants as group
 use Rattle.look.specs.declared.Fault.the-variants as fault
 use Rattle.look.specs.declared.Begun.{Begun}
 use Rattle.look.specs.declared.Begun.the-variants as begun

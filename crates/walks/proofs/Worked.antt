@@ -10,7 +10,8 @@ use Rattle.orders.specs.Orders.{orderOf, findIn, table}
 use Rattle.orders.specs.declared.Size.{Size}
 use Rattle.orders.specs.declared.Size.the-variants.{K4, K8}
 use Rattle.orders.specs.declared.Mode.the-variants.{Idle, Vector}
-use Rattle.look.specs.Look.{imageGroup, lookOf}
+use Rattle.groups.specs.Groups.{imageGroup}
+use Rattle.look.specs.Look.{lookOf}
 use Rattle.walks.specs.declared.Place.{Place}
 use Rattle.walks.specs.declared.Setup.{Setup}
 use Rattle.walks.specs.declared.Answer.the-variants.{Passed, Fault}

@@ -6,7 +6,8 @@ use Prim.Native.Nat.{ℕ}
 use Rattle.orders.specs.declared.Size.{Size}
 use Rattle.orders.specs.declared.Mode.{Mode}
 use Rattle.orders.specs.declared.Mode.the-variants.{Idle}
-use Rattle.look.specs.Look.{lookOf, imageGroup, faultNumber}
+use Rattle.groups.specs.Groups.{imageGroup}
+use Rattle.look.specs.Look.{lookOf, faultNumber}
 use Rattle.look.specs.declared.Look.{Look}
 use Rattle.look.specs.declared.Look.the-variants as look
 use Rattle.walks.specs.declared.Place.{Place}

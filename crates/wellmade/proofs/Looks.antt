@@ -17,14 +17,15 @@ use Rattle.orders.specs.declared.Follows.the-variants as follows
 use Rattle.orders.specs.declared.Found.{Found}
 use Rattle.orders.specs.declared.Found.the-variants.{Order, Missing}
 use Rattle.beam.specs.declared.Beam.{Beam}
-use Rattle.look.specs.declared.Group.{Group}
-use Rattle.look.specs.declared.Group.the-variants as group
+use Rattle.groups.specs.declared.Group.{Group}
+use Rattle.groups.specs.declared.Group.the-variants as group
 use Rattle.look.specs.declared.Fault.the-variants as fault
 use Rattle.look.specs.declared.Look.{Look}
 use Rattle.look.specs.declared.Look.the-variants as look
 use Rattle.look.specs.declared.Begun.{Begun}
 use Rattle.look.specs.declared.Begun.the-variants as begun
-use Rattle.look.specs.Look.{aheadOf, wordsGroup, orderBy, foundBy, dataBy, firstBy, secondBy, lookOf}
+use Rattle.groups.specs.Groups.{aheadOf, wordsGroup}
+use Rattle.look.specs.Look.{orderBy, foundBy, dataBy, firstBy, secondBy, lookOf}
 use Rattle.motion.specs.Motion.{twoOf, fourOf, motionOf}
 use Rattle.roundtrips.proofs.Buffers.{either-way, inside}
 use Rattle.wellmade.proofs.Beams.{MotionMade, placed-made, stepped-made}

@@ -1,7 +1,7 @@
-use Rattle.look.specs.Look.{wordsGroup}
+use Rattle.groups.specs.Groups.{wordsGroup}
 use borrow.Author.Needs.{needs}
-use Rattle.look.proofs.group_at.Statement.{statement}
-use Rattle.look.proofs.group_at.Tie as tie
+use Rattle.groups.proofs.group_at.Statement.{statement}
+use Rattle.groups.proofs.group_at.Tie as tie
 
 wrap-requires : tie.Need-wrap-requires
 wrap-requires c κs = search needs

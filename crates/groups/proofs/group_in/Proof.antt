@@ -1,8 +1,8 @@
 use borrow.Author.Tests.{lt-ltb, le-ltb}
-use Rattle.look.specs.Look.{imageGroup}
+use Rattle.groups.specs.Groups.{imageGroup}
 use borrow.Author.Needs.{needs}
-use Rattle.look.proofs.group_in.Statement.{statement}
-use Rattle.look.proofs.group_in.Tie as tie
+use Rattle.groups.proofs.group_in.Statement.{statement}
+use Rattle.groups.proofs.group_in.Tie as tie
 
 wrap-requires : tie.Need-wrap-requires
 wrap-requires c κs = search needs

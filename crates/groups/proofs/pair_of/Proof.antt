@@ -1,6 +1,6 @@
 use borrow.Author.Needs.{needs}
-use Rattle.look.proofs.pair_of.Statement.{statement}
-use Rattle.look.proofs.pair_of.Tie as tie
+use Rattle.groups.proofs.pair_of.Statement.{statement}
+use Rattle.groups.proofs.pair_of.Tie as tie
 
 written-of-requires : tie.Need-written-of-requires
 written-of-requires c κs = search needs

@@ -1,6 +1,6 @@
 use borrow.Author.Needs.{needs}
-use Rattle.look.proofs.group_by.Statement.{statement}
-use Rattle.look.proofs.group_by.Tie as tie
+use Rattle.groups.proofs.group_by.Statement.{statement}
+use Rattle.groups.proofs.group_by.Tie as tie
 
 returns : tie.Need-returns
 returns c = cc

@@ -1,0 +1,98 @@
+// Groups of two locations, fetched from the words of a buffer or from the bytes of an image.
+//
+// The contracts cite `specs/Groups.antt`.
+use orders::Size;
+ghost use mathlib.Core.Path.{_≡_};
+ghost use mathlib.Core.Bool.{_&&_};
+ghost use Prim.Native.Nat.{_<_};
+ghost use Rattle.groups.specs.Groups.{aheadOf, groupBy, pairOf, wordsGroup, imageGroup};
+
+// Two locations that are read together.
+pub enum Group {
+    // One of them is unwritten.
+    Unwritten,
+    // The parity at this address is bad.
+    Bad(usize),
+    // Their bytes.
+    Bytes(u8, u8),
+}
+
+// The address n on.
+pub fn ahead(size: Size, at: usize, n: u8) -> usize
+    ensures { λ r. ⌜ (r ≡ aheadOf size at n) × (r < 8192) ⌝ }
+{
+    let here = orders::wrap(size, at);
+    orders::wrap(size, here + n as usize)
+}
+
+// The group of two bytes that stand at a and b.
+fn group_by(
+    written: bool,
+    good_a: bool,
+    good_b: bool,
+    a: usize,
+    b: usize,
+    byte_a: u8,
+    byte_b: u8,
+) -> Group
+    ensures { λ r. ⌜ r ≡ groupBy written «good_a» «good_b» a b «byte_a» «byte_b» ⌝ }
+{
+    if written {
+        if good_a {
+            if good_b {
+                Group::Bytes(byte_a, byte_b)
+            } else {
+                Group::Bad(b)
+            }
+        } else {
+            Group::Bad(a)
+        }
+    } else {
+        Group::Unwritten
+    }
+}
+
+// Whether both hold.
+fn both(a: bool, b: bool) -> bool
+    ensures { λ r. ⌜ r ≡ a && b ⌝ }
+{
+    if a { b } else { false }
+}
+
+// The group of the words w and v that stand at a and b.
+fn pair_of(w: u16, v: u16, a: usize, b: usize) -> Group
+    ensures { λ r. ⌜ r ≡ pairOf w v a b ⌝ }
+{
+    group_by(
+        both(location::written_of(w), location::written_of(v)),
+        location::good(w),
+        location::good(v),
+        a,
+        b,
+        location::data_of(w),
+        location::data_of(v),
+    )
+}
+
+// The group at an address of a buffer.
+pub fn group_at(words: &[u16; 8192], size: Size, at: usize) -> Group
+    ensures { λ r. ⌜ r ≡ wordsGroup (now (words .entry)) size at ⌝ }
+{
+    let a = orders::wrap(size, at);
+    let b = ahead(size, at, 1);
+    pair_of(words[a], words[b], a, b)
+}
+
+// The group at an address of an image.
+pub fn group_in(image: &[u8], size: Size, at: usize) -> Group
+    ensures { λ r. ⌜ r ≡ imageGroup (now (image .entry)) size at ⌝ }
+{
+    let a = orders::wrap(size, at);
+    let b = ahead(size, at, 1);
+    if a < image.len() {
+        if b < image.len() {
+            return Group::Bytes(image[a], image[b]);
+        }
+    }
+    Group::Unwritten
+}
