@@ -1,14 +1,17 @@
--- A line that ends at the first newline of its window is one that is told.
-use Prim.Native.Nat.{ℕ}
-use mathlib.Core.Path.{_≡_, refl, subst⁻¹}
+-- A line that ends at the first newline of its window is one that is told, and what was held stays at its front.
+use Prim.Native.Nat.{ℕ, _≤_, min}
+use mathlib.Core.Path.{_≡_, refl, sym, ap, subst⁻¹, _∙_}
 use mathlib.Core.Bool.{Bool, true, false, cond}
-use mathlib.Core.List.{List}
+use mathlib.Core.List.{List, [], _∷_}
+use native.Mathlib.Omega.{arith}
+use lib.ListN.{length, take, length-take}
+use lib.Seq.{take-take}
 use lib.Dec.{leb, eqb}
-use borrow.Author.Tests.{leb-true}
+use borrow.Author.Tests.{leb-true, eqb-true}
 use Rattle.bytes.specs.Bytes.{indexOf}
 use Rattle.stream.specs.Stream.{heldOf, pastOf}
 use Rattle.stream.specs.declared.Window.{Window}
-use Rattle.readline.specs.Readline.{sizedOf, endedOf, Told}
+use Rattle.readline.specs.Readline.{sizedOf, endedOf, Told, Begins}
 use Rattle.readline.specs.declared.Line.{Line}
 use Rattle.readline.specs.declared.Line.the-variants.{Whole, Long, End}
 
@@ -30,3 +33,39 @@ module _ (buffer : List ℕ) (count : ℕ) (window : Window) (first : count ≡ 
 
   pub ended-told : (line : Line) → line ≡ endedOf count window → Told buffer line
   ended-told line e = subst⁻¹ (Told buffer) e (by-end (eqb count 0))
+
+-- what stands in front is no longer than the whole
+front-fits : (front whole : List ℕ) → take (length front) whole ≡ front → length front ≤ length whole
+front-fits front whole e =
+    let size : length front ≡ min (length front) (length whole) = sym (ap length e) ∙ length-take (length front) whole in
+    omega arith
+
+-- what stands in front of the front of a text stands in front of the text
+pub front-of-front : (first front whole : List ℕ)
+    → take (length first) front ≡ first
+    → take (length front) whole ≡ front
+    → take (length first) whole ≡ first
+front-of-front first front whole e f =
+    sym (take-take (length first) (length front) whole (front-fits first front e)) ∙ ap (take (length first)) f ∙ e
+
+none-in-front : (front whole : List ℕ) → take (length front) whole ≡ front → length whole ≤ 0 → front ≡ []
+none-in-front [] whole e h = refl
+none-in-front (x ∷ xs) whole e h = absurd (omega (arith, front-fits (x ∷ xs) whole e))
+
+module _ (held buffer : List ℕ) (window : Window) (front : take (length held) (heldOf buffer window) ≡ held) where
+  begun-by : (count : ℕ) (short : Bool)
+      → Begins held buffer (cond short (Whole count window) (Long (pastOf (pastOf window count) 1)))
+  begun-by count true = front
+  begun-by count false = tt
+
+  begun-or-end : (count : ℕ) (none : Bool) → eqb count 0 ≡ none → length (heldOf buffer window) ≤ count
+      → Begins held buffer (cond none End (sizedOf count window))
+  begun-or-end count true e h = none-in-front held (heldOf buffer window) front (omega (arith, eqb-true count 0 e))
+  begun-or-end count false e h = begun-by count (leb count 40000)
+
+  pub sized-begins : (count : ℕ) (line : Line) → line ≡ sizedOf count window → Begins held buffer line
+  sized-begins count line e = subst⁻¹ (Begins held buffer) e (begun-by count (leb count 40000))
+
+  pub ended-begins : (count : ℕ) (line : Line) → length (heldOf buffer window) ≤ count → line ≡ endedOf count window
+      → Begins held buffer line
+  ended-begins count line h e = subst⁻¹ (Begins held buffer) e (begun-or-end count (eqb count 0) refl h)

@@ -2,8 +2,8 @@
 use Prim.Native.Nat.{ℕ, _≤_, _<_}
 use mathlib.Core.Path.{_≡_}
 use mathlib.Core.Bool.{cond}
-use mathlib.Core.List.{List}
-use lib.ListN.{length}
+use mathlib.Core.List.{List, []}
+use lib.ListN.{length, take}
 use lib.Dec.{leb, eqb}
 use Rattle.bytes.specs.Bytes.{indexOf}
 use Rattle.stream.specs.Stream.{heldOf, pastOf}
@@ -25,9 +25,16 @@ Told buffer (Whole count window) = (count ≤ 40000) × (count ≡ indexOf 10 (h
 Told buffer (Long window) = Unit {0}
 Told buffer End = Unit {0}
 
--- what reading a line leaves: the line that is told, and one that the window holds with its newline is found with
--- nothing read
+-- what was held is not lost: a line that is given begins with it, and the input has ended only where nothing was held
+abbrev pub Begins : List ℕ → List ℕ → Line → Type 0
+Begins held buffer (Whole count window) = take (length held) (heldOf buffer window) ≡ held
+Begins held buffer (Long window) = Unit {0}
+Begins held buffer End = held ≡ []
+
+-- what reading a line leaves: the line that is told, with nothing lost of what was held, and one that the window holds
+-- with its newline is found with nothing read
 pub record Lined (before : List ℕ) (window : Window) (after : List ℕ) (line : Line) : Type 0 where
   pub told : Told after line
+  pub begins : Begins (heldOf before window) after line
   pub whole : indexOf 10 (heldOf before window) < length (heldOf before window)
       → (after ≡ before) × (line ≡ sizedOf (indexOf 10 (heldOf before window)) window)

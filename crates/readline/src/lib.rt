@@ -1,6 +1,7 @@
 // The lines of standard input, read through a window that the program lends.
 ghost use mathlib.Core.Path.{_≡_};
-ghost use Rattle.readline.specs.Readline.{sizedOf, endedOf, Told, Lined};
+ghost use Rattle.stream.specs.Stream.{heldOf};
+ghost use Rattle.readline.specs.Readline.{sizedOf, endedOf, Told, Begins, Lined};
 use stream::Window;
 
 // What stands where a line was due.
@@ -57,6 +58,7 @@ fn swallow(buffer: &mut [u8], window: Window, most: usize) -> Window {
 // Reads on until a line of which the window holds `count` bytes has ended.
 fn read_more(buffer: &mut [u8], window: Window, count: usize) -> Line
     ensures { λ r. ⌜ Told (now (buffer .exit)) r ⌝ }
+    ensures { λ r. ⌜ Begins (heldOf (now (buffer .entry)) window) (now (buffer .exit)) r ⌝ }
 {
     let mut next = window;
     let mut had = count;

@@ -3,10 +3,11 @@ use native.Mathlib.Omega.{arith}
 use mathlib.Core.Path.{refl, ap, _∙_}
 use Prim.Native.Nat.{ℕ}
 use lib.ListN.{length}
+use lib.Seq.{take-length}
 use denote.Ref.{now}
 use Rattle.bytes.specs.Bytes.{indexOf}
 use Rattle.readline.specs.Readline.{sizedOf}
-use Rattle.readline.proofs.Laws.{sized-told}
+use Rattle.readline.proofs.Laws.{sized-told, sized-begins}
 use Rattle.readline.proofs.read_line.Statement.{statement}
 use Rattle.readline.proofs.read_line.Tie as tie
 
@@ -29,6 +30,7 @@ returns c =
     let first = at-end .index-of .ensures .0 ∙ ap (indexOf 10) (at-end .before .held .ensures) in
     record {
       told = sized-told (now (a .buffer)) (at-end .index-of .result) (a .window) first _ (c .sized .ensures);
+      begins = sized-begins _ (now (a .buffer)) (a .window) (take-length _) (at-end .index-of .result) _ (c .sized .ensures);
       whole = λ inside. (refl, c .sized .ensures ∙ ap (λ (n : ℕ). sizedOf n (a .window)) first);
     }
 
@@ -44,7 +46,8 @@ returns-2 c =
     let size = ap (length {A = ℕ}) (at-end .before .held .ensures) in
     let first = at-end .index-of .ensures .0 ∙ ap (indexOf 10) (at-end .before .held .ensures) in
     record {
-      told = c .before .before .read-more .ensures;
+      told = c .before .before .read-more .ensures .0;
+      begins = c .before .before .read-more .ensures .1;
       whole = λ inside. absurd (omega (arith, c .before .before .before .before .if1 .left));
     }
 

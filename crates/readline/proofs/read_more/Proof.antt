@@ -1,21 +1,24 @@
 use borrow.Author.Needs.{needs}
-use mathlib.Core.Path.{ap, _∙_}
+use native.Mathlib.Omega.{arith}
+use mathlib.Core.Path.{_≡_, ap, _∙_}
+use Prim.Native.Nat.{ℕ, _-_, _≤_}
+use lib.ListN.{length, take}
+use lib.Seq.{take-length}
 use Rattle.bytes.specs.Bytes.{indexOf}
-use Rattle.readline.proofs.Laws.{sized-told, ended-told}
-use mathlib.Core.Path.{_≡_}
-use Prim.Native.Nat.{_-_}
-use lib.ListN.{length}
+use Rattle.stream.specs.Stream.{heldOf}
+use Rattle.readline.proofs.Laws.{sized-told, ended-told, front-of-front, sized-begins, ended-begins}
 use Rattle.readline.proofs.read_more.Statement.{statement}
 use Rattle.readline.proofs.read_more.Tie as tie
 
 abbrev Inv-loop : tie.InvT-loop
-Inv-loop buffer₀ count next₀ had₀ buffer next had = length buffer ≡ length buffer₀
+Inv-loop buffer₀ count next₀ had₀ buffer next had =
+    (length buffer ≡ length buffer₀) × (take (length (heldOf buffer₀ next₀)) (heldOf buffer next) ≡ heldOf buffer₀ next₀)
 
 abbrev μ-loop : tie.MeasureT-loop
 μ-loop buffer₀ count next₀ had₀ buffer next had = 40001 - had
 
 loop-holds : tie.Need-loop-holds Inv-loop μ-loop
-loop-holds c = search needs
+loop-holds c = (search needs, take-length _)
 
 add-fill : tie.Need-add-fill Inv-loop μ-loop
 add-fill c = search needs
@@ -40,7 +43,11 @@ returns c =
     let at-end = c .before .before in
     let fill = at-end .before .before .before .before .before .fill in
     let first = at-end .index-of .ensures .0 ∙ ap (indexOf 10) (at-end .before .held .ensures) in
-    sized-told (fill .last .0) (at-end .index-of .result) (fill .result) first _ (c .sized .ensures)
+    let l = at-end .before .before .before .before .before .before .before .before .loop in
+    let front = front-of-front _ _ _ (l .inv .1) (fill .ensures .kept) in (
+      sized-told (fill .last .0) (at-end .index-of .result) (fill .result) first _ (c .sized .ensures),
+      sized-begins _ (fill .last .0) (fill .result) front (at-end .index-of .result) _ (c .sized .ensures),
+    )
 
 ended-requires : tie.Need-ended-requires Inv-loop μ-loop
 ended-requires c κs = search needs
@@ -53,13 +60,22 @@ returns-2 c =
     let at-end = c .before .before .before in
     let fill = at-end .before .before .before .before .before .fill in
     let first = at-end .index-of .ensures .0 ∙ ap (indexOf 10) (at-end .before .held .ensures) in
-    ended-told (fill .last .0) (at-end .index-of .result) (fill .result) first _ (c .ended .ensures)
+    let l = at-end .before .before .before .before .before .before .before .before .loop in
+    let front = front-of-front _ _ _ (l .inv .1) (fill .ensures .kept) in
+    let size = ap (length {A = ℕ}) (at-end .before .held .ensures) in
+    let none : length (heldOf (fill .last .0) (fill .result)) ≤ at-end .index-of .result = omega (arith, c .before .before .if1 .left) in (
+      ended-told (fill .last .0) (at-end .index-of .result) (fill .result) first _ (c .ended .ensures),
+      ended-begins _ (fill .last .0) (fill .result) front (at-end .index-of .result) _ none (c .ended .ensures),
+    )
 
 loop-less : tie.Need-loop-less Inv-loop μ-loop
 loop-less c = search needs
 
 loop-again : tie.Need-loop-again Inv-loop μ-loop
-loop-again c = search needs
+loop-again c =
+    let fill = c .before .before .before .before .before .before .before .fill in
+    let l = c .before .before .before .before .before .before .before .before .before .before .loop in
+    (search needs, front-of-front _ _ _ (l .inv .1) (fill .ensures .kept))
 
 swallow-requires : tie.Need-swallow-requires Inv-loop μ-loop
 swallow-requires c κs = search needs
