@@ -11,7 +11,7 @@ use Rattle.parse.specs.Parse.{numberOf}
 use Rattle.parse.specs.declared.Parsed.{Parsed}
 use Rattle.parse.specs.declared.Parsed.the-variants.{Number, Wrong}
 use Rattle.script.specs.declared.Request.{Request}
-use Rattle.script.specs.declared.Request.the-variants.{Fresh, Load, Command, Halt, SwitchOpen, SwitchClosed, Run, State, Words, Empty, Error}
+use Rattle.script.specs.declared.Request.the-variants.{Fresh, Load, Command, Halt, SwitchOpen, SwitchClosed, Run, State, Words, Key, Empty, Error}
 
 -- a line's first word, what stands behind the space after it, and whether there is no space
 unfoldable pub firstWord : List ℕ → List ℕ
@@ -113,6 +113,16 @@ wordsBy Wrong count = Error
 unfoldable pub wordsOf : List ℕ → Request
 wordsOf rest = wordsBy (numberOf (firstWord rest)) (numberOf (restOf rest))
 
+-- `key CC`: the key of a code, two digits
+unfoldable pub codeOf : List ℕ → Request
+codeOf rest = cond (eqb (length rest) 2) (cond (allBelow 16 rest) (Key (byteAt rest 0)) Error) Error
+
+-- `key advance`, `key backspace`, `key jump`: the keys of the numbers 256, 257 and 258
+unfoldable pub keyOf : List ℕ → Request
+keyOf rest =
+    cond (same rest (spelled "advance")) (Key 256)
+    (cond (same rest (spelled "backspace")) (Key 257) (cond (same rest (spelled "jump")) (Key 258) (codeOf rest)))
+
 -- the requests that have arguments, by their first word
 unfoldable pub arguedOf : List ℕ → List ℕ → Request
 arguedOf word rest =
@@ -120,7 +130,7 @@ arguedOf word rest =
     (cond (same word (spelled "run")) (runOf rest)
     (cond (same word (spelled "words")) (wordsOf rest)
     (cond (same word (spelled "load")) (loadOf rest)
-    (cond (same word (spelled "fresh")) (freshBy (numberOf rest)) Error))))
+    (cond (same word (spelled "fresh")) (freshBy (numberOf rest)) (cond (same word (spelled "key")) (keyOf rest) Error)))))
 
 -- the requests that are whole lines, then those with arguments
 unfoldable pub plainOf : List ℕ → Request

@@ -1,7 +1,7 @@
 // The requests of a script, line by line: what a line asks for, and the bytes, words and sights that it holds.
 ghost use mathlib.Core.Path.{_≡_};
 ghost use Prim.Native.Nat.{_+_, _≤_, _<_};
-ghost use Rattle.script.specs.Script.{firstWord, restOf, lone as Script·lone, same as Script·same, hexValue, allBelow, bytesText, wordsText, sightsText, upTo, digitAt, byteAt, wordAt, freshBy, loadBy, loadOf, commandBy, roomOf, commandOf, runBy, runOf, wordsBy, wordsOf, arguedOf, plainOf, requestOf};
+ghost use Rattle.script.specs.Script.{firstWord, restOf, lone as Script·lone, same as Script·same, hexValue, allBelow, bytesText, wordsText, sightsText, upTo, digitAt, byteAt, wordAt, freshBy, loadBy, loadOf, commandBy, roomOf, commandOf, runBy, runOf, wordsBy, wordsOf, codeOf, keyOf, arguedOf, plainOf, requestOf};
 use parse::Parsed;
 
 // What a line asks for. What follows the numbers, in `Load`, `Command` and `Run`, is found by `rest_of`.
@@ -15,6 +15,8 @@ pub enum Request {
     Run(usize),
     State,
     Words(usize, usize),
+    // A key by its number.
+    Key(u16),
     Empty,
     Error,
 }
@@ -290,6 +292,35 @@ fn words_of(rest: &[u8]) -> Request
     )
 }
 
+// The key of a code in two digits.
+fn code_of(rest: &[u8]) -> Request
+    ensures { λ r. ⌜ r ≡ codeOf (now (rest .entry)) ⌝ }
+{
+    if rest.len() != 2 {
+        return Request::Error;
+    }
+    if all_below(16, rest) {
+        return Request::Key(byte_at(rest, 0) as u16);
+    }
+    Request::Error
+}
+
+// What stands behind `key`.
+fn key_of(rest: &[u8]) -> Request
+    ensures { λ r. ⌜ r ≡ keyOf (now (rest .entry)) ⌝ }
+{
+    if same(rest, b"advance") {
+        return Request::Key(256);
+    }
+    if same(rest, b"backspace") {
+        return Request::Key(257);
+    }
+    if same(rest, b"jump") {
+        return Request::Key(258);
+    }
+    code_of(rest)
+}
+
 // A request with arguments, by its first word.
 fn argued_of(word: &[u8], rest: &[u8]) -> Request
     ensures { λ r. ⌜ r ≡ arguedOf (now (word .entry)) (now (rest .entry)) ⌝ }
@@ -308,6 +339,9 @@ fn argued_of(word: &[u8], rest: &[u8]) -> Request
     }
     if same(word, b"fresh") {
         return fresh_by(parse::number_of(rest));
+    }
+    if same(word, b"key") {
+        return key_of(rest);
     }
     Request::Error
 }

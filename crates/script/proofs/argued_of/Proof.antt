@@ -92,15 +92,36 @@ returns-5 c =
     let test5 = sym (c .before .before .before .same5 .ensures) ∙ c .before .before .if5 .taken in
     simp (test1, test2, test3, test4, test5) (c .fresh-by .ensures ∙ ap freshBy (c .before .number-of .ensures))
 
+slice-aggregate-same-6 : tie.Need-slice-aggregate-same-6
+slice-aggregate-same-6 c = search needs
+
+same-requires-6 : tie.Need-same-requires-6
+same-requires-6 c κs = search needs
+
+key-of-requires : tie.Need-key-of-requires
+key-of-requires c κs = search needs
+
 returns-6 : tie.Need-returns-6
 unfolding arguedOf
 returns-6 c =
-    let test1 = sym (c .before .before .before .before .before .before .before .before .before .before .before .before .before .same .ensures) ∙ c .before .before .before .before .before .before .before .before .before .before .before .before .if1 .left in
-    let test2 = sym (c .before .before .before .before .before .before .before .before .before .before .same2 .ensures) ∙ c .before .before .before .before .before .before .before .before .before .if2 .left in
-    let test3 = sym (c .before .before .before .before .before .before .before .same3 .ensures) ∙ c .before .before .before .before .before .before .if3 .left in
-    let test4 = sym (c .before .before .before .before .same4 .ensures) ∙ c .before .before .before .if4 .left in
-    let test5 = sym (c .before .same5 .ensures) ∙ c .if5 .left in
-    simp (test1, test2, test3, test4, test5)
+    let test1 = sym (c .before .before .before .before .before .before .before .before .before .before .before .before .before .before .before .before .before .same .ensures) ∙ c .before .before .before .before .before .before .before .before .before .before .before .before .before .before .before .before .if1 .left in
+    let test2 = sym (c .before .before .before .before .before .before .before .before .before .before .before .before .before .before .same2 .ensures) ∙ c .before .before .before .before .before .before .before .before .before .before .before .before .before .if2 .left in
+    let test3 = sym (c .before .before .before .before .before .before .before .before .before .before .before .same3 .ensures) ∙ c .before .before .before .before .before .before .before .before .before .before .if3 .left in
+    let test4 = sym (c .before .before .before .before .before .before .before .before .same4 .ensures) ∙ c .before .before .before .before .before .before .before .if4 .left in
+    let test5 = sym (c .before .before .before .before .before .same5 .ensures) ∙ c .before .before .before .before .if5 .left in
+    let test6 = sym (c .before .before .same6 .ensures) ∙ c .before .if6 .taken in
+    simp (test1, test2, test3, test4, test5, test6) (c .key-of .ensures)
+
+returns-7 : tie.Need-returns-7
+unfolding arguedOf
+returns-7 c =
+    let test1 = sym (c .before .before .before .before .before .before .before .before .before .before .before .before .before .before .before .before .same .ensures) ∙ c .before .before .before .before .before .before .before .before .before .before .before .before .before .before .before .if1 .left in
+    let test2 = sym (c .before .before .before .before .before .before .before .before .before .before .before .before .before .same2 .ensures) ∙ c .before .before .before .before .before .before .before .before .before .before .before .before .if2 .left in
+    let test3 = sym (c .before .before .before .before .before .before .before .before .before .before .same3 .ensures) ∙ c .before .before .before .before .before .before .before .before .before .if3 .left in
+    let test4 = sym (c .before .before .before .before .before .before .before .same4 .ensures) ∙ c .before .before .before .before .before .before .if4 .left in
+    let test5 = sym (c .before .before .before .before .same5 .ensures) ∙ c .before .before .before .if5 .left in
+    let test6 = sym (c .before .same6 .ensures) ∙ c .if6 .left in
+    simp (test1, test2, test3, test4, test5, test6)
 
 pub argued-of-spec : {M : Type 1} → statement M
 argued-of-spec =
@@ -127,4 +148,8 @@ argued-of-spec =
     number-of-requires
     fresh-by-requires
     returns-5
-    returns-6)
+    slice-aggregate-same-6
+    same-requires-6
+    key-of-requires
+    returns-6
+    returns-7)
