@@ -1,6 +1,6 @@
 -- The lines that answer a request, but for drawn items and the unit's state.
 use Prim.Native.Nat.{ℕ, _+_}
-use mathlib.Core.Bool.{cond}
+use mathlib.Core.Bool.{Bool, cond}
 use mathlib.Core.List.{List, _++_}
 use lib.ListN.{getD}
 use lib.Dec.{eqb, leb}
@@ -16,6 +16,10 @@ errorLine = spelled "error\n"
 -- `refused N`
 abbrev pub refusedLine : ℕ → List ℕ
 refusedLine n = named (spelled "refused ") n ++ spelled "\n"
+
+-- `unheard`, or `heard`
+abbrev pub heardLine : Bool → List ℕ
+heardLine heard = cond heard (spelled "heard\n") (spelled "unheard\n")
 
 -- the first bytes of a room, two digits each
 abbrev pub bytesText : List ℕ → ℕ → List ℕ

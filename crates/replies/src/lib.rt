@@ -7,7 +7,7 @@ ghost use Prim.Native.Nat.{_+_, _≤_};
 ghost use lib.ListN.{getD};
 ghost use Rattle.text.specs.Text.{putAt, endOf, spelled};
 ghost use Rattle.orders.specs.Orders.{sizeOf};
-ghost use Rattle.replies.specs.Replies.{okLine, errorLine, refusedLine, bytesText, givenText, statusLine, ranLine, wordsText, wordsLine};
+ghost use Rattle.replies.specs.Replies.{okLine, errorLine, refusedLine, heardLine, bytesText, givenText, statusLine, ranLine, wordsText, wordsLine};
 use orders::Size;
 
 // Puts `ok`.
@@ -33,6 +33,14 @@ pub fn put_refused(buffer: &mut [u8], at: usize, refusal: u8) -> usize
 {
     let middle = phrases::put_named(buffer, at, b"refused ", refusal as usize);
     text::put(buffer, middle, b"\n")
+}
+
+// Puts whether a key was heard.
+pub fn put_heard(buffer: &mut [u8], at: usize, heard: bool) -> usize
+    ensures { λ r. ⌜ r ≡ endOf (now (buffer .entry)) at (heardLine heard) ⌝ }
+    ensures { λ _. ⌜ now (buffer .exit) ≡ putAt (now (buffer .entry)) at (heardLine heard) ⌝ }
+{
+    phrases::put_either(buffer, at, heard, b"heard\n", b"unheard\n")
 }
 
 // The byte at a place, 0 where there is none.

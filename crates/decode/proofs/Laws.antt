@@ -1,0 +1,39 @@
+-- Numbers read one by one, and that a text has the same where it has ended.
+use Prim.Native.Nat.{ℕ, suc, _+_, _≤_, _<_}
+use mathlib.Core.Path.{_≡_, refl, sym, ap, _∙_}
+use mathlib.Core.List.{List, [], _∷_, _++_}
+use native.Mathlib.Omega.{arith}
+use native.Mathlib.Numerals.{add-one}
+use lib.ListN.{length, getD, take, set, List·getD-eq-default}
+use lib.Seq.{take-suc-set}
+use Rattle.phrases.specs.Phrases.{eachOf}
+use Rattle.script.specs.Script.{digitAt, byteAt, wordAt}
+use Rattle.decode.specs.Decode.{listed}
+
+pub none-read : (value : ℕ → ℕ) (out : List ℕ) → take 0 out ≡ listed value 0
+unfolding eachOf
+none-read value out = refl
+
+pub one-more-read : (value : ℕ → ℕ) (out : List ℕ) (i n : ℕ) → i < length out → n ≡ value i → take i out ≡ listed value i
+    → take (i + 1) (set out i n) ≡ listed value (i + 1)
+unfolding eachOf
+one-more-read value out i n h e read = rw (add-one, take-suc-set out i n h, e, read)
+
+-- behind its end a text has no digits
+no-digit : (text : List ℕ) (at : ℕ) → length text ≤ at → digitAt text at ≡ 16
+unfolding digitAt
+no-digit text at h = rw (List·getD-eq-default text 0 {n = at} h)
+
+no-byte : (text : List ℕ) (at : ℕ) → length text ≤ at → byteAt text at ≡ 16
+unfolding byteAt
+no-byte text at h = rw (no-digit text at h, no-digit text (at + 1) (omega arith))
+
+pub bytes-ended : (text : List ℕ) (a b : ℕ) → length text ≤ a → length text ≤ b → byteAt text a ≡ byteAt text b
+bytes-ended text a b h k = no-byte text a h ∙ sym (no-byte text b k)
+
+no-word : (text : List ℕ) (at : ℕ) → length text ≤ at → wordAt text at ≡ 4112
+unfolding wordAt
+no-word text at h = rw (no-byte text at h, no-byte text (at + 2) (omega arith))
+
+pub words-ended : (text : List ℕ) (a b : ℕ) → length text ≤ a → length text ≤ b → wordAt text a ≡ wordAt text b
+words-ended text a b h k = no-word text a h ∙ sym (no-word text b k)

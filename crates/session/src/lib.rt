@@ -1,0 +1,241 @@
+// The console's requests, each answered by the unit: the device after it, and its answer put into a buffer that the caller lends.
+//
+// The contracts cite `specs/Session.antt`.
+use commands::Reply;
+use device::Answer;
+use device::Device;
+use device::Loaded;
+use device::Sized;
+use keys::KeyReply;
+use keys::Keyed;
+use refusals::Refusal;
+use run::Outcome;
+use run::Ran;
+use script::Request;
+ghost use mathlib.Core.Path.{_≡_};
+ghost use Prim.Native.Nat.{_*_, _≤_};
+ghost use lib.ListN.{length, replicate};
+ghost use Rattle.replies.specs.Replies.{okLine};
+ghost use Rattle.device.specs.Device.{loadOf};
+ghost use Rattle.commands.specs.Commands.{commandOf};
+ghost use Rattle.decode.specs.Decode.{bytesIn, wordsIn, sightsIn};
+ghost use Rattle.session.specs.Session.{said, refusedSaid, freshSaid, loadSaid, replySaid, commandSaid, ranSaid, runSaid, keySaid, stateSaid, wordsSaid, bytesOf, dumpOf, sightsOf, Fits, saidBy, saidOf, Speaks};
+
+// The device after a request, and where its answer ends.
+pub struct Told {
+    pub device: Device,
+    pub end: usize,
+}
+
+// A request that is done.
+fn done(device: Device, lines: &mut [u8], at: usize) -> Told
+    ensures { λ r. ⌜ Speaks (said device okLine) (now (lines .entry)) at (now (lines .exit)) r ⌝ }
+{
+    let end = replies::put_ok(lines, at);
+    Told { device, end }
+}
+
+// A request that is refused.
+fn refused(device: Device, refusal: Refusal, lines: &mut [u8], at: usize) -> Told
+    ensures { λ r. ⌜ Speaks (refusedSaid device refusal) (now (lines .entry)) at (now (lines .exit)) r ⌝ }
+{
+    let number = refusals::refusal_number(refusal);
+    let end = replies::put_refused(lines, at, number);
+    Told { device, end }
+}
+
+// A fresh unit of a size.
+fn fresh_by(device: Device, size: Sized, lines: &mut [u8], at: usize) -> Told
+    ensures { λ r. ⌜ Speaks (freshSaid device size) (now (lines .entry)) at (now (lines .exit)) r ⌝ }
+{
+    match size {
+        Sized::Of(s) => done(device::fresh(s), lines, at),
+        Sized::Refused(refusal) => refused(device, refusal, lines, at),
+    }
+}
+
+// A dump that was loaded, or refused.
+fn loaded_by(loaded: Loaded, lines: &mut [u8], at: usize) -> Told
+    ensures { λ r. ⌜ Speaks (loadSaid loaded) (now (lines .entry)) at (now (lines .exit)) r ⌝ }
+{
+    let device = loaded.device;
+    let answer = loaded.answer;
+    match answer {
+        Answer::Done => done(device, lines, at),
+        Answer::Refused(refusal) => refused(device, refusal, lines, at),
+    }
+}
+
+// Loads the words of a text, by way of a dump of so many.
+fn load_through(
+    device: Device,
+    size: usize,
+    text: &[u8],
+    dump: &mut [u16],
+    lines: &mut [u8],
+    at: usize,
+) -> Told
+    ensures { λ r. ⌜ Speaks (loadSaid (loadOf device size (wordsIn (now (text .entry)) (length (now (dump .entry)))))) (now (lines .entry)) at (now (lines .exit)) r ⌝ }
+{
+    decode::read_words(text, dump);
+    loaded_by(device::load(device, size, dump), lines, at)
+}
+
+// Loads the words of a text.
+fn load_text(device: Device, size: usize, text: &[u8], lines: &mut [u8], at: usize) -> Told
+    requires { ⌜ length (now text) ≤ 40000 ⌝ }
+    ensures { λ r. ⌜ Speaks (loadSaid (loadOf device size (dumpOf (now (text .entry))))) (now (lines .entry)) at (now (lines .exit)) r ⌝ }
+{
+    let mut dump = [0u16; 10000];
+    let count = text.len() / 4;
+    load_through(device, size, text, &mut dump[0..count], lines, at)
+}
+
+// A command's status, with the bytes that it gave, or its refusal.
+fn replied(device: Device, reply: Reply, room: &[u8], lines: &mut [u8], at: usize) -> Told
+    ensures { λ r. ⌜ Speaks (replySaid device reply (now (room .entry))) (now (lines .entry)) at (now (lines .exit)) r ⌝ }
+{
+    match reply {
+        Reply::Status(status, count) => {
+            let end = replies::put_status(lines, at, status, room, count);
+            Told { device, end }
+        }
+        Reply::Refused(refusal) => refused(device, refusal, lines, at),
+    }
+}
+
+// Gives a command with the bytes of a text, by way of so many data, and lends it a room.
+fn command_through(
+    device: Device,
+    code: u8,
+    text: &[u8],
+    bytes: &mut [u8],
+    room: &mut [u8],
+    lines: &mut [u8],
+    at: usize,
+) -> Told
+    ensures { λ r. ⌜ Speaks (commandSaid (commandOf device code (bytesIn (now (text .entry)) (length (now (bytes .entry)))) (now (room .entry)))) (now (lines .entry)) at (now (lines .exit)) r ⌝ }
+{
+    decode::read_bytes(text, bytes);
+    let answered = commands::command(device, code, bytes, room);
+    let after = answered.device;
+    let reply = answered.answer;
+    replied(after, reply, room, lines, at)
+}
+
+// Gives a command with the bytes of a text and a room of so many bytes.
+fn command_text(
+    device: Device,
+    code: u8,
+    count: usize,
+    text: &[u8],
+    lines: &mut [u8],
+    at: usize,
+) -> Told
+    requires { ⌜ (count ≤ 65535) × (length (now text) ≤ 40000) ⌝ }
+    ensures { λ r. ⌜ Speaks (commandSaid (commandOf device code (bytesOf (now (text .entry))) (replicate count 0))) (now (lines .entry)) at (now (lines .exit)) r ⌝ }
+{
+    let mut bytes = [0u8; 20000];
+    let mut room = [0u8; 65535];
+    let sent = text.len() / 2;
+    command_through(
+        device,
+        code,
+        text,
+        &mut bytes[0..sent],
+        &mut room[0..count],
+        lines,
+        at,
+    )
+}
+
+// A run's steps, end and items, or its refusal.
+fn ran_by(ran: Ran, list: &[u16], lines: &mut [u8], at: usize) -> Told
+    ensures { λ r. ⌜ Speaks (ranSaid ran (now (list .entry))) (now (lines .entry)) at (now (lines .exit)) r ⌝ }
+{
+    let device = ran.device;
+    let answer = ran.answer;
+    match answer {
+        Outcome::Done(steps, end, items) => {
+            let why = step::end_number(end);
+            let middle = replies::put_ran(lines, at, steps, why, items);
+            let end = pictures::put_items(lines, middle, list, items);
+            Told { device, end }
+        }
+        Outcome::Refused(refusal) => refused(device, refusal, lines, at),
+    }
+}
+
+// Runs the unit over the sights of a text, by way of so many sights, and lends it a list.
+fn run_through(
+    device: Device,
+    text: &[u8],
+    sights: &mut [u8],
+    list: &mut [u16],
+    lines: &mut [u8],
+    at: usize,
+) -> Told
+    ensures { λ r. ⌜ Speaks (runSaid device (sightsIn (now (text .entry)) (length (now (sights .entry)))) (now (list .entry))) (now (lines .entry)) at (now (lines .exit)) r ⌝ }
+{
+    decode::read_sights(text, sights);
+    let ran = run::run(device, sights, list);
+    ran_by(ran, list, lines, at)
+}
+
+// Runs the unit over the sights of a text with room for so many items.
+fn run_text(device: Device, room: usize, text: &[u8], lines: &mut [u8], at: usize) -> Told
+    requires { ⌜ (room ≤ 4096) × (length (now text) ≤ 40000) ⌝ }
+    ensures { λ r. ⌜ Speaks (runSaid device (sightsOf (now (text .entry))) (replicate (8 * room) 0)) (now (lines .entry)) at (now (lines .exit)) r ⌝ }
+{
+    let mut sights = [0u8; 40000];
+    let mut list = [0u16; 32768];
+    let steps = text.len();
+    let count = 8 * room;
+    run_through(
+        device,
+        text,
+        &mut sights[0..steps],
+        &mut list[0..count],
+        lines,
+        at,
+    )
+}
+
+// A key that was heard or not, or is refused.
+fn keyed_by(keyed: Keyed, lines: &mut [u8], at: usize) -> Told
+    ensures { λ r. ⌜ Speaks (keySaid keyed) (now (lines .entry)) at (now (lines .exit)) r ⌝ }
+{
+    let device = keyed.device;
+    let answer = keyed.answer;
+    match answer {
+        KeyReply::Refused(refusal) => refused(device, refusal, lines, at),
+        KeyReply::Unheard => {
+            let end = replies::put_heard(lines, at, false);
+            Told { device, end }
+        }
+        KeyReply::Heard(_, _) => {
+            let end = replies::put_heard(lines, at, true);
+            Told { device, end }
+        }
+    }
+}
+
+// The state of the unit.
+fn show_state(device: Device, lines: &mut [u8], at: usize) -> Told
+    ensures { λ r. ⌜ Speaks (stateSaid device) (now (lines .entry)) at (now (lines .exit)) r ⌝ }
+{
+    let state = device.state;
+    let sense = device.sense;
+    let end = conditions::put_state(lines, at, state, device.status, sense);
+    Told { device, end }
+}
+
+// Words of the unit.
+fn show_words(device: Device, from: usize, count: usize, lines: &mut [u8], at: usize) -> Told
+    ensures { λ r. ⌜ Speaks (wordsSaid device from count) (now (lines .entry)) at (now (lines .exit)) r ⌝ }
+{
+    let state = device.state;
+    let size = state.size;
+    let end = replies::put_words(lines, at, &device.words, size, from, count);
+    Told { device, end }
+}
