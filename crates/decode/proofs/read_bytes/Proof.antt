@@ -12,7 +12,7 @@ use Rattle.decode.proofs.read_bytes.Statement.{statement}
 use Rattle.decode.proofs.read_bytes.Tie as tie
 
 abbrev Inv-loop : tie.InvT-loop
-Inv-loop text out₀ i₀ out i = 
+Inv-loop text out₀ i₀ out i =
     (i ≤ length out₀) × (length out ≡ length out₀) × (take i out ≡ listed (λ k. byteAt text (2 * k)) i)
 
 abbrev μ-loop : tie.MeasureT-loop
@@ -38,8 +38,7 @@ loop-less c = search needs
 loop-again : tie.Need-loop-again Inv-loop μ-loop
 loop-again c =
     let l = c .before .before .loop in
-    let a = c .before .before .before .before .before .args in
-    (
+    let a = c .before .before .before .before .before .args in (
       search needs,
       search needs,
       one-more-read (λ k. byteAt (now (a .text)) (2 * k)) (l .out) (l .i) _ (search needs) (c .byte-in .ensures) (l .inv .2),

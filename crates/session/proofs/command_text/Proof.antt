@@ -1,45 +1,44 @@
+use Prim.Native.Nat.{_/_}
+use native.Mathlib.Omega.{arith}
+use lib.ListN.{length}
+use denote.Ref.{now}
+use Rattle.session.proofs.Laws.{speaks-as, command-as, part-length, part-zero}
 use borrow.Author.Needs.{needs}
 use Rattle.session.proofs.command_text.Statement.{statement}
 use Rattle.session.proofs.command_text.Tie as tie
-use Rattle.session.proofs.command_text.Reads as reads
-use Rattle.session.proofs.command_text.Lts as lts
-use Rattle.session.proofs.command_through.Reads as command-through-reads
 
--- src/lib.rt:145:9
 sub-command-through : tie.Need-sub-command-through
 sub-command-through c = search needs
 
--- src/lib.rt:145:9
 part-bytes-start : tie.Need-part-bytes-start
 part-bytes-start c = search needs
 
--- src/lib.rt:145:9
 part-bytes-end : tie.Need-part-bytes-end
 part-bytes-end c = search needs
 
--- src/lib.rt:146:9
 sub-command-through-2 : tie.Need-sub-command-through-2
 sub-command-through-2 c = search needs
 
--- src/lib.rt:146:9
 part-room-start : tie.Need-part-room-start
 part-room-start c = search needs
 
--- src/lib.rt:146:9
 part-room-end : tie.Need-part-room-end
 part-room-end c = search needs
 
--- src/lib.rt:141:5
 command-through-requires : tie.Need-command-through-requires
 command-through-requires c κs = search needs
 
--- src/lib.rt:127:1
 same-length : tie.Need-same-length
 same-length c = search needs
 
--- src/lib.rt:127:1
 returns : tie.Need-returns
-returns c = ?
+returns c =
+    let a = c .before .before .before .before .before .before .before .before .before .before .args in
+    let text = now (a .text) in
+    let sent = part-length 20000 (length text / 2) (omega arith) in
+    let room = part-zero 65535 (a .count) (omega arith) in
+    speaks-as (command-as (a .device) (a .code) text sent room)
+    (c .before .before .before .before .command-through .ensures)
 
 pub command-text-spec : {M : Type 1} → statement M
 command-text-spec =

@@ -1,58 +1,51 @@
+use mathlib.Core.Path.{sym, ap, _∙_}
+use Rattle.session.specs.Session.{keyBy}
+use Rattle.session.proofs.Laws.{speaks-as, spoken}
 use borrow.Author.Needs.{needs}
 use Rattle.session.proofs.keyed_by.Statement.{statement}
 use Rattle.session.proofs.keyed_by.Tie as tie
-use Rattle.session.proofs.keyed_by.Reads as reads
-use Rattle.session.proofs.keyed_by.Lts as lts
-use Rattle.replies.proofs.put_heard.Reads as put-heard-reads
-use Rattle.session.proofs.refused.Reads as refused-reads
 
--- src/lib.rt:211:27
 enum-known-answer : tie.Need-enum-known-answer
 enum-known-answer c = search needs
 
--- src/lib.rt:211:39
 refused-requires : tie.Need-refused-requires
 refused-requires c κs = search needs
 
--- src/lib.rt:213:42
 enum-told : tie.Need-enum-told
 enum-told c = search needs
 
--- src/lib.rt:213:17
 put-heard-requires : tie.Need-put-heard-requires
 put-heard-requires c κs = search needs
 
--- src/lib.rt:217:42
 enum-told-2 : tie.Need-enum-told-2
 enum-told-2 c = search needs
 
--- src/lib.rt:217:17
 put-heard-requires-2 : tie.Need-put-heard-requires-2
 put-heard-requires-2 c κs = search needs
 
--- src/lib.rt:205:1
 same-length : tie.Need-same-length
 same-length c = search needs
 
--- src/lib.rt:205:1
 returns : tie.Need-returns
-returns c = ?
+returns c =
+    let a = c .before .before .before .before .before .before .before .before .before .args in
+    speaks-as (ap (keyBy (a .keyed .device)) (sym (c .before .before .before .before .before .answer .given .1))) (c .before .before .refused .ensures)
 
--- src/lib.rt:205:1
 same-length-2 : tie.Need-same-length-2
 same-length-2 c = search needs
 
--- src/lib.rt:205:1
 returns-2 : tie.Need-returns-2
-returns-2 c = ?
+returns-2 c =
+    let a = c .before .before .before .before .before .before .before .before .args in
+    speaks-as (ap (keyBy (a .keyed .device)) (sym (c .before .before .before .before .enum-told .given .1))) (spoken _ _ _ _ _ _ (c .before .before .put-heard .ensures))
 
--- src/lib.rt:205:1
 same-length-3 : tie.Need-same-length-3
 same-length-3 c = search needs
 
--- src/lib.rt:205:1
 returns-3 : tie.Need-returns-3
-returns-3 c = ?
+returns-3 c =
+    let a = c .before .before .before .before .before .before .before .before .args in
+    speaks-as (ap (keyBy (a .keyed .device)) (sym (c .before .before .before .before .enum-told2 .given .1))) (spoken _ _ _ _ _ _ (c .before .before .put-heard2 .ensures))
 
 pub keyed-by-spec : {M : Type 1} → statement M
 keyed-by-spec =

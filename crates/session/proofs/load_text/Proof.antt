@@ -1,33 +1,37 @@
+use mathlib.Core.Path.{sym, ap, _∙_}
+use Prim.Native.Nat.{ℕ, _/_}
+use native.Mathlib.Omega.{arith}
+use lib.ListN.{length}
+use denote.Ref.{now}
+use Rattle.device.specs.Device.{loadOf}
+use Rattle.decode.specs.Decode.{wordsIn}
+use Rattle.session.specs.Session.{loadSaid}
+use Rattle.session.proofs.Laws.{speaks-as, part-length}
 use borrow.Author.Needs.{needs}
 use Rattle.session.proofs.load_text.Statement.{statement}
 use Rattle.session.proofs.load_text.Tie as tie
-use Rattle.session.proofs.load_text.Reads as reads
-use Rattle.session.proofs.load_text.Lts as lts
-use Rattle.session.proofs.load_through.Reads as load-through-reads
 
--- src/lib.rt:91:38
 sub-load-through : tie.Need-sub-load-through
 sub-load-through c = search needs
 
--- src/lib.rt:91:38
 part-dump-start : tie.Need-part-dump-start
 part-dump-start c = search needs
 
--- src/lib.rt:91:38
 part-dump-end : tie.Need-part-dump-end
 part-dump-end c = search needs
 
--- src/lib.rt:91:5
 load-through-requires : tie.Need-load-through-requires
 load-through-requires c κs = search needs
 
--- src/lib.rt:85:1
 same-length : tie.Need-same-length
 same-length c = search needs
 
--- src/lib.rt:85:1
 returns : tie.Need-returns
-returns c = ?
+returns c =
+    let a = c .before .before .before .before .before .before .before .before .args in
+    let text = now (a .text) in
+    let count = part-length 10000 (length text / 4) (omega arith) in
+    speaks-as (ap (λ (n : ℕ). loadSaid (loadOf (a .device) (a .size) (wordsIn text n))) count) (c .before .before .before .load-through .ensures)
 
 pub load-text-spec : {M : Type 1} → statement M
 load-text-spec =

@@ -1,42 +1,42 @@
+use mathlib.Core.Path.{sym, ap, _∙_}
+use Prim.Native.Nat.{ℕ}
+use Rattle.device.specs.declared.Device.{Device}
+use Rattle.replies.specs.Replies.{okLine, refusedLine}
+use Rattle.session.specs.Session.{said, freshSaid, loadBy, replySaid, ranBy, keyBy}
+use Rattle.session.proofs.Laws.{speaks-as, spoken}
+use denote.Ref.{now}
+use Rattle.commands.specs.declared.Reply.{Reply}
 use borrow.Author.Needs.{needs}
 use Rattle.session.proofs.replied.Statement.{statement}
 use Rattle.session.proofs.replied.Tie as tie
-use Rattle.session.proofs.replied.Reads as reads
-use Rattle.session.proofs.replied.Lts as lts
-use Rattle.replies.proofs.put_status.Reads as put-status-reads
-use Rattle.session.proofs.refused.Reads as refused-reads
 
--- src/lib.rt:99:23
 enum-known-reply : tie.Need-enum-known-reply
 enum-known-reply c = search needs
 
--- src/lib.rt:100:17
 put-status-requires : tie.Need-put-status-requires
 put-status-requires c κs = search needs
 
--- src/lib.rt:103:24
 enum-known-reply-2 : tie.Need-enum-known-reply-2
 enum-known-reply-2 c = search needs
 
--- src/lib.rt:103:36
 refused-requires : tie.Need-refused-requires
 refused-requires c κs = search needs
 
--- src/lib.rt:95:1
 same-length : tie.Need-same-length
 same-length c = search needs
 
--- src/lib.rt:95:1
 returns : tie.Need-returns
-returns c = ?
+returns c =
+    let a = c .before .before .before .before .before .before .before .before .before .args in
+    speaks-as (ap (λ (r : Reply). replySaid (a .device) r (now (a .room))) (sym (c .before .before .before .before .before .reply .given .1))) (spoken _ _ _ _ _ _ (c .before .before .put-status .ensures))
 
--- src/lib.rt:95:1
 same-length-2 : tie.Need-same-length-2
 same-length-2 c = search needs
 
--- src/lib.rt:95:1
 returns-2 : tie.Need-returns-2
-returns-2 c = ?
+returns-2 c =
+    let a = c .before .before .before .before .before .before .before .before .before .args in
+    speaks-as (ap (λ (r : Reply). replySaid (a .device) r (now (a .room))) (sym (c .before .before .before .before .before .reply2 .given .1))) (c .before .before .refused .ensures)
 
 pub replied-spec : {M : Type 1} → statement M
 replied-spec =

@@ -1,39 +1,38 @@
+use mathlib.Core.Path.{sym, ap, _∙_}
+use Prim.Native.Nat.{ℕ}
+use mathlib.Core.List.{List}
+use denote.Ref.{now}
+use Rattle.session.specs.Session.{Said, runSaid}
+use Rattle.session.proofs.Laws.{speaks-as, ran-as}
 use borrow.Author.Needs.{needs}
 use Rattle.session.proofs.run_through.Statement.{statement}
 use Rattle.session.proofs.run_through.Tie as tie
-use Rattle.session.proofs.run_through.Reads as reads
-use Rattle.session.proofs.run_through.Lts as lts
-use Rattle.decode.proofs.read_sights.Reads as read-sights-reads
-use Rattle.run.proofs.run.Reads as run-reads
-use Rattle.session.proofs.ran_by.Reads as ran-by-reads
 
--- src/lib.rt:180:5
 read-sights-requires : tie.Need-read-sights-requires
 read-sights-requires c κs = search needs
 
--- src/lib.rt:181:9
 run-requires : tie.Need-run-requires
 run-requires c κs = search needs
 
--- src/lib.rt:182:5
 ran-by-requires : tie.Need-ran-by-requires
 ran-by-requires c κs = search needs
 
--- src/lib.rt:170:1
 same-length : tie.Need-same-length
 same-length c = search needs
 
--- src/lib.rt:170:1
 same-length-2 : tie.Need-same-length-2
 same-length-2 c = search needs
 
--- src/lib.rt:170:1
 same-length-3 : tie.Need-same-length-3
 same-length-3 c = search needs
 
--- src/lib.rt:170:1
 returns : tie.Need-returns
-returns c = ?
+returns c =
+    let a = c .before .before .before .before .before .before .before .before .before .before .before .before .before .before .before .before .before .before .args in
+    let read = c .before .before .before .before .before .before .before .before .before .before .before .before .read-sights .ensures in
+    let ran = c .before .before .before .before .before .before .before .run .ensures in
+    let sights : List ℕ → Said = λ s. runSaid (a .device) s (now (a .list)) in
+    speaks-as (ran-as (ran .0) (ran .1) ∙ ap sights read) (c .before .before .ran-by .ensures)
 
 pub run-through-spec : {M : Type 1} → statement M
 run-through-spec =
