@@ -1,23 +1,26 @@
 -- Answers: of an equal meaning, and of a text that a call has put.
-use Prim.Native.Nat.{ℕ, _+_, _-_, _≤_}
+use Prim.Native.Nat.{ℕ, _+_, _-_, _≤_, _<_}
 use mathlib.Core.Path.{_≡_, refl, sym, ap, subst, _∙_}
 use mathlib.Core.List.{List, _++_}
 use native.Mathlib.Omega.{arith}
-use lib.ListN.{length, take, drop, replicate, length-replicate, replicate-append-replicate}
+use lib.ListN.{length, take, drop, replicate, length-replicate, length-drop, replicate-append-replicate}
 use lib.Seq.{take-at}
+use borrow.Author.Tests.{le-leb, lt-leb}
 use Rattle.text.proofs.Laws.{Puts}
 use Rattle.device.specs.declared.Device.{Device}
 use Rattle.session.specs.declared.Told.{Told}
 use Rattle.step.specs.Step.{endNumber}
 use Rattle.step.specs.declared.End.{End}
-use Rattle.replies.specs.Replies.{ranLine}
+use Rattle.replies.specs.Replies.{errorLine, ranLine}
 use Rattle.pictures.specs.Pictures.{itemsText}
 use Rattle.run.specs.declared.Ran.{Ran}
 use Rattle.run.specs.declared.Outcome.{Outcome}
 use Rattle.run.specs.declared.Outcome.the-variants.{Done}
+use Rattle.device.specs.Device.{loadOf}
+use Rattle.script.specs.Script.{restOf, requestOf}
 use Rattle.commands.specs.Commands.{commandOf}
 use Rattle.decode.specs.Decode.{bytesIn, sightsIn}
-use Rattle.session.specs.Session.{Said, said, commandSaid, ranBy, ranSaid, runSaid, Speaks}
+use Rattle.session.specs.Session.{Said, said, loadSaid, commandSaid, ranBy, ranSaid, runSaid, bytesOf, dumpOf, sightsOf, saidBy, saidOf, Speaks}
 
 pub speaks-as : {s t : Said} {buffer : List ℕ} {at : ℕ} {after : List ℕ} {told : Told} → s ≡ t
     → Speaks s buffer at after told
@@ -61,3 +64,29 @@ pub ran-end : (d : Device) (list : List ℕ) {o : Outcome} {steps why items : �
 ran-end d list {o} {steps} {why} {items} {e} told h =
     ap (λ (n : ℕ). said d (ranLine steps n items ++ itemsText list items)) h
     ∙ ap (λ (o : Outcome). ranBy d o list) (sym told)
+
+pub load-of-text : (d : Device) (size : ℕ) {t u : List ℕ} → t ≡ u
+    → loadSaid (loadOf d size (dumpOf t)) ≡ loadSaid (loadOf d size (dumpOf u))
+load-of-text d size e = ap (λ (t : List ℕ). loadSaid (loadOf d size (dumpOf t))) e
+
+pub command-of-text : (d : Device) (code : ℕ) (room : List ℕ) {t u : List ℕ} → t ≡ u
+    → commandSaid (commandOf d code (bytesOf t) room) ≡ commandSaid (commandOf d code (bytesOf u) room)
+command-of-text d code room e = ap (λ (t : List ℕ). commandSaid (commandOf d code (bytesOf t) room)) e
+
+pub run-of-text : (d : Device) (list : List ℕ) {t u : List ℕ} → t ≡ u → runSaid d (sightsOf t) list ≡ runSaid d (sightsOf u) list
+run-of-text d list e = ap (λ (t : List ℕ). runSaid d (sightsOf t) list) e
+
+-- what stands behind a space is no longer than the line
+pub rest-shorter : (line : List ℕ) → length (restOf line) ≤ length line
+unfolding restOf
+rest-shorter line = simp length-drop (omega arith)
+
+-- a line of up to 40,000 bytes, and a longer one
+module _ (d : Device) (line : List ℕ) where
+  pub said-short : length line ≤ 40000 → saidBy d line (requestOf line) ≡ saidOf d line
+  unfolding saidOf
+  said-short h = rw (le-leb (length line) 40000 h)
+
+  pub said-long : 40000 < length line → said d errorLine ≡ saidOf d line
+  unfolding saidOf
+  said-long h = rw (lt-leb (length line) 40000 h)

@@ -13,9 +13,10 @@ use run::Outcome;
 use run::Ran;
 use script::Request;
 ghost use mathlib.Core.Path.{_≡_};
+ghost use mathlib.Core.List.{[]};
 ghost use Prim.Native.Nat.{_*_, _≤_};
 ghost use lib.ListN.{length, replicate};
-ghost use Rattle.replies.specs.Replies.{okLine};
+ghost use Rattle.replies.specs.Replies.{okLine, errorLine};
 ghost use Rattle.device.specs.Device.{loadOf};
 ghost use Rattle.commands.specs.Commands.{commandOf};
 ghost use Rattle.decode.specs.Decode.{bytesIn, wordsIn, sightsIn};
@@ -41,6 +42,22 @@ fn refused(device: Device, refusal: Refusal, lines: &mut [u8], at: usize) -> Tol
 {
     let number = refusals::refusal_number(refusal);
     let end = replies::put_refused(lines, at, number);
+    Told { device, end }
+}
+
+// What is no request.
+fn wrong(device: Device, lines: &mut [u8], at: usize) -> Told
+    ensures { λ r. ⌜ Speaks (said device errorLine) (now (lines .entry)) at (now (lines .exit)) r ⌝ }
+{
+    let end = replies::put_error(lines, at);
+    Told { device, end }
+}
+
+// A line that is passed over.
+fn passed_over(device: Device, lines: &mut [u8], at: usize) -> Told
+    ensures { λ r. ⌜ Speaks (said device []) (now (lines .entry)) at (now (lines .exit)) r ⌝ }
+{
+    let end = phrases::put_nothing(lines, at);
     Told { device, end }
 }
 
@@ -238,4 +255,44 @@ fn show_words(device: Device, from: usize, count: usize, lines: &mut [u8], at: u
     let size = state.size;
     let end = replies::put_words(lines, at, &device.words, size, from, count);
     Told { device, end }
+}
+
+// Answers a request of a line.
+fn answer_by(device: Device, line: &[u8], request: Request, lines: &mut [u8], at: usize) -> Told
+    requires { ⌜ (length (now line) ≤ 40000) × Fits request ⌝ }
+    ensures { λ r. ⌜ Speaks (saidBy device (now (line .entry)) request) (now (lines .entry)) at (now (lines .exit)) r ⌝ }
+{
+    match request {
+        Request::Fresh(size) => fresh_by(device, device::size_from(size), lines, at),
+        Request::Load(size) => {
+            let text = script::rest_of(script::rest_of(line));
+            load_text(device, size, text, lines, at)
+        }
+        Request::Command(code, room) => {
+            let text = script::rest_of(script::rest_of(script::rest_of(line)));
+            command_text(device, code, room, text, lines, at)
+        }
+        Request::Halt => done(device::halt(device), lines, at),
+        Request::SwitchOpen => done(device::switch_to(device, false), lines, at),
+        Request::SwitchClosed => done(device::switch_to(device, true), lines, at),
+        Request::Run(room) => {
+            let text = script::rest_of(script::rest_of(line));
+            run_text(device, room, text, lines, at)
+        }
+        Request::State => show_state(device, lines, at),
+        Request::Words(from, count) => show_words(device, from, count, lines, at),
+        Request::Key(number) => keyed_by(keys::key(device, number), lines, at),
+        Request::Empty => passed_over(device, lines, at),
+        Request::Error => wrong(device, lines, at),
+    }
+}
+
+// Answers a line of a script: the unit after it, and its answer put into the buffer from a place on.
+pub fn answer(device: Device, line: &[u8], lines: &mut [u8], at: usize) -> Told
+    ensures { λ r. ⌜ Speaks (saidOf device (now (line .entry))) (now (lines .entry)) at (now (lines .exit)) r ⌝ }
+{
+    if line.len() <= 40000 {
+        return answer_by(device, line, script::request_of(line), lines, at);
+    }
+    wrong(device, lines, at)
 }
