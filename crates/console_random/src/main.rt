@@ -1,0 +1,4 @@
+// The program console on another input.
+fn main() {
+    dialogue::hold(usize::MAX);
+}

@@ -1,0 +1,19 @@
+-- A line that the window holds whole.
+use Prim.Native.Nat.{ℕ}
+use mathlib.Core.Path.{_≡_, sym, ap, _∙_}
+use mathlib.Core.List.{List}
+use lib.ListN.{take}
+use Rattle.stream.specs.Stream.{heldOf}
+use Rattle.stream.specs.declared.Window.{Window}
+use Rattle.readline.specs.declared.Line.{Line}
+use Rattle.readline.specs.declared.Line.the-variants.{Whole}
+use Rattle.device.specs.declared.Device.{Device}
+use Rattle.session.specs.Session.{saidOf}
+use Rattle.dialogue.specs.Dialogue.{saidAt}
+
+pub whole-said : (d : Device) (input : List ℕ) {line : Line} {count : ℕ} {window : Window} {text held : List ℕ}
+    → line ≡ Whole count window
+    → text ≡ take count held
+    → held ≡ heldOf input window
+    → saidOf d text ≡ saidAt d input line
+whole-said d input {line} {count} told e f = ap (saidOf d) (e ∙ ap (take count) f) ∙ ap (saidAt d input) (sym told)
