@@ -7,7 +7,8 @@ use lib.Dec.{eqb, ltb, leb}
 use Rattle.refusals.specs.declared.Refusal.the-variants.{UnknownKey}
 use Rattle.orders.specs.declared.Mode.{Mode}
 use Rattle.device.specs.declared.State.{State}
-use Rattle.seek.specs.Seek.{lineAt, forwardOf, backwardOf}
+use Rattle.signs.specs.Signs.{lineAt}
+use Rattle.seek.specs.Seek.{forwardOf, backwardOf}
 use Rattle.seek.specs.declared.Spot.{Spot}
 use Rattle.seek.specs.declared.Spot.the-variants.{At, Nowhere}
 use Rattle.fields.specs.Fields.{fieldOf}

@@ -131,7 +131,7 @@ fn character(words: &[u16; 8192], state: State, at: usize, code: u8) -> Act
 {
     let size = state.size;
     let spot = seek::forward(words, size, at);
-    if seek::line_at(words, size, at) {
+    if signs::line_at(words, size, at) {
         move_by(spot)
     } else {
         store_by(code, at, spot)

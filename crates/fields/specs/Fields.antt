@@ -11,7 +11,8 @@ use Rattle.orders.specs.declared.Follows.{Follows}
 use Rattle.orders.specs.declared.Follows.the-variants as follows
 use Rattle.orders.specs.declared.Found.{Found}
 use Rattle.orders.specs.declared.Found.the-variants.{Order, Missing}
-use Rattle.seek.specs.Seek.{codeAt, evenOf, orderAt, orderBehind}
+use Rattle.signs.specs.Signs.{codeAt, evenOf, orderAt}
+use Rattle.seek.specs.Seek.{orderBehind}
 use Rattle.seek.specs.declared.Spot.{Spot}
 use Rattle.seek.specs.declared.Spot.the-variants.{At, Nowhere}
 use Rattle.fields.specs.declared.Field.{Field}

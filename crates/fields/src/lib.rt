@@ -80,7 +80,7 @@ fn field_by(words: &[u16; 8192], size: Size, spot: Spot) -> Field
 {
     match spot {
         Spot::Nowhere => Field::Outside,
-        Spot::At(a) => code_field(seek::code_at(words, size, a)),
+        Spot::At(a) => code_field(signs::code_at(words, size, a)),
     }
 }
 
@@ -88,7 +88,7 @@ fn field_by(words: &[u16; 8192], size: Size, spot: Spot) -> Field
 pub fn field_of(words: &[u16; 8192], size: Size, at: usize) -> Field
     ensures { λ r. ⌜ r ≡ fieldOf (now (words .entry)) size at ⌝ }
 {
-    if seek::order_at(words, size, seek::even(size, at)) {
+    if signs::order_at(words, size, signs::even(size, at)) {
         Field::Outside
     } else {
         field_by(words, size, seek::order_behind(words, size, at))

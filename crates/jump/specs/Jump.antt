@@ -12,7 +12,7 @@ use Rattle.device.specs.declared.State.{State}
 use Rattle.step.specs.Step.{lookAt, at, advanceOf}
 use Rattle.step.specs.declared.Stepped.{Stepped}
 use Rattle.step.specs.declared.Stepped.the-variants as stepped
-use Rattle.seek.specs.Seek.{codeAt, evenOf, orderAt}
+use Rattle.signs.specs.Signs.{codeAt, evenOf, orderAt}
 use Rattle.seek.specs.declared.Spot.{Spot}
 use Rattle.seek.specs.declared.Spot.the-variants.{At, Nowhere}
 use Rattle.fields.specs.Fields.{codeField}

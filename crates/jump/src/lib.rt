@@ -11,7 +11,7 @@ use step::Stepped;
 ghost use mathlib.Core.Path.{_≡_};
 ghost use mathlib.Core.Bool.{not, _&&_};
 ghost use Rattle.step.specs.Step.{at};
-ghost use Rattle.seek.specs.Seek.{codeAt, orderAt};
+ghost use Rattle.signs.specs.Signs.{codeAt, orderAt};
 ghost use Rattle.fields.specs.Fields.{codeField};
 ghost use Rattle.jump.specs.Jump.{openIn, landingBy, steppedBy, hopBy, hopOf, jumpFrom, stepsIn, jumpOf};
 
@@ -35,7 +35,7 @@ fn is_open(field: Field) -> bool
 fn enters_open(words: &[u16; 8192], size: Size, at: usize) -> bool
     ensures { λ r. ⌜ r ≡ openIn (codeField (codeAt (now (words .entry)) size at)) ⌝ }
 {
-    is_open(fields::code_field(seek::code_at(words, size, at)))
+    is_open(fields::code_field(signs::code_at(words, size, at)))
 }
 
 // Whether the cursor lands behind the order at a place.
@@ -43,7 +43,7 @@ fn lands(words: &[u16; 8192], size: Size, at: usize, next: usize) -> bool
     ensures { λ r. ⌜ r ≡ (openIn (codeField (codeAt (now (words .entry)) size at)) && not (orderAt (now (words .entry)) size next)) ⌝ }
 {
     if enters_open(words, size, at) {
-        !seek::order_at(words, size, next)
+        !signs::order_at(words, size, next)
     } else {
         false
     }
@@ -153,6 +153,6 @@ pub fn jump_to(words: &[u16; 8192], state: State, cursor: usize, mode: Mode) -> 
     ensures { λ r. ⌜ r ≡ jumpOf (now (words .entry)) state cursor mode ⌝ }
 {
     let size = state.size;
-    let start = start_at(state, seek::even(size, cursor), mode);
+    let start = start_at(state, signs::even(size, cursor), mode);
     jump_from(words, steps_in(size), start)
 }

@@ -11,7 +11,7 @@ use Rattle.orders.specs.declared.Mode.{Mode}
 use Rattle.walks.specs.Places.{place, Proper}
 use Rattle.device.specs.declared.State.{State}
 use Rattle.step.specs.Step.{at}
-use Rattle.seek.specs.Seek.{evenOf}
+use Rattle.signs.specs.Signs.{evenOf}
 use Rattle.seek.specs.declared.Spot.{Spot}
 use Rattle.seek.specs.declared.Spot.the-variants.{At, Nowhere}
 use Rattle.jump.specs.Jump.{hopOf, jumpBy, jumpFrom, stepsIn, jumpOf}

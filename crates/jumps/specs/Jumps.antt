@@ -11,7 +11,7 @@ use Rattle.pen.specs.declared.Pen.{Pen}
 use Rattle.walks.specs.Places.{place, numberOf}
 use Rattle.device.specs.declared.State.{State}
 use Rattle.step.specs.Step.{at}
-use Rattle.seek.specs.Seek.{evenOf}
+use Rattle.signs.specs.Signs.{evenOf}
 use Rattle.seek.specs.declared.Spot.the-variants.{At}
 use Rattle.jump.specs.Jump.{jumpFrom, jumpOf}
 

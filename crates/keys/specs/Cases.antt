@@ -20,7 +20,8 @@ use Rattle.buffer.specs.Buffer.{cursorCleared, cursorInserted}
 use Rattle.device.specs.Device.{freshWith}
 use Rattle.device.specs.declared.Device.{Device}
 use Rattle.step.specs.Step.{seenOf, advanceOf}
-use Rattle.seek.specs.Seek.{byteAt, codeAt, orderAt, lineAt, seekFrom, cursorIn, orderBehind, forwardOf, backwardOf}
+use Rattle.signs.specs.Signs.{byteAt, codeAt, orderAt, lineAt}
+use Rattle.seek.specs.Seek.{seekFrom, cursorIn, orderBehind, forwardOf, backwardOf}
 use Rattle.fields.specs.Fields.{codeField, fieldOf}
 use Rattle.jump.specs.Jump.{hopOf, jumpFrom, jumpOf}
 use Rattle.acts.specs.Acts.{letterOf, signOf, numberedOf, characterOf, actOf}

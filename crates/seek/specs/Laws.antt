@@ -16,7 +16,8 @@ use Rattle.seek.specs.declared.Sought.{Sought}
 use Rattle.seek.specs.declared.Sought.the-variants.{Cursor, Forward, Backward}
 use Rattle.seek.specs.declared.Turn.{Turn}
 use Rattle.seek.specs.declared.Turn.the-variants.{Ends, On}
-use Rattle.seek.specs.Seek.{wordAt, byteAt, backOf, orderAt, lineAt, turnOf, seekBy, seekFrom, cursorIn, forwardOf, backwardOf}
+use Rattle.signs.specs.Signs.{wordAt, byteAt, orderAt, lineAt}
+use Rattle.seek.specs.Seek.{backOf, turnOf, seekBy, seekFrom, cursorIn, forwardOf, backwardOf}
 
 pub wrap-twice : (s : Size) (a : ℕ) → wrapOf s (wrapOf s a) ≡ wrapOf s a
 wrap-twice K4 a = omega arith

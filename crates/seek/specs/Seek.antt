@@ -1,14 +1,12 @@
 -- The searches through a buffer's words that the keyboard makes (C-13): for the cursor, for the order of a field, and for the
 -- location that the cursor goes to (000 p.21, 32, 35 and 36; 001 3-15 to 3-17, Figures 4-5 to 4-14).
-use Prim.Native.Nat.{ℕ, zero, suc, _+_, _-_, _%_}
-use mathlib.Core.Bool.{Bool, cond, _&&_}
+use Prim.Native.Nat.{ℕ, zero, suc, _+_, _-_}
+use mathlib.Core.Bool.{cond}
 use mathlib.Core.List.{List}
-use lib.Dec.{eqb}
-use lib.ListN.{getD}
-use Rattle.location.specs.Location.{dataOf, cursorOf}
 use Rattle.orders.specs.Orders.{sizeOf, wrapOf}
 use Rattle.orders.specs.declared.Size.{Size}
 use Rattle.groups.specs.Groups.{aheadOf}
+use Rattle.signs.specs.Signs.{evenOf, orderAt, lineAt, cursorAt}
 use Rattle.seek.specs.declared.Spot.{Spot}
 use Rattle.seek.specs.declared.Spot.the-variants.{At, Nowhere}
 use Rattle.seek.specs.declared.Sought.{Sought}
@@ -16,38 +14,15 @@ use Rattle.seek.specs.declared.Sought.the-variants.{Cursor, Order, Forwa
 use Rattle.seek.specs.declared.Turn.{Turn}
 use Rattle.seek.specs.declared.Turn.the-variants.{Ends, On}
 
--- the word and the data at an address: "Addresses go round at the buffer's size."
-abbrev pub wordAt : List ℕ → Size → ℕ → ℕ
-wordAt words s a = getD words (wrapOf s a) 0
-
-unfoldable pub byteAt : List ℕ → Size → ℕ → ℕ
-byteAt words s a = dataOf (wordAt words s a)
-
--- the code of an order at A
-unfoldable pub codeAt : List ℕ → Size → ℕ → ℕ
-codeAt words s a = byteAt words s (aheadOf s a 1)
-
 -- the address k before A, round the buffer
 abbrev pub backOf : Size → ℕ → ℕ → ℕ
 backOf s a k = wrapOf s (wrapOf s a + (sizeOf s - k))
-
--- the even address of a location's pair
-abbrev pub evenOf : Size → ℕ → ℕ
-evenOf s a = wrapOf s a - wrapOf s a % 2
-
--- "A 2A at an odd address is data": the first byte of an order is a 2A at an even address
-unfoldable pub orderAt : List ℕ → Size → ℕ → Bool
-orderAt words s a = eqb (wrapOf s a % 2) 0 && eqb (byteAt words s a) 0x2A
-
--- "Code 15 is a new line by itself."
-unfoldable pub lineAt : List ℕ → Size → ℕ → Bool
-lineAt words s a = eqb (byteAt words s a) 0x15
 
 -- what each search makes of an address. The cursor: "where several are set, the lowest address counts (house)". The order of a
 -- field: back by two. Forwards: a mode code is not stepped into (Figure 4-7), a new line is passed (Figure 4-6). Backwards: the
 -- field's first location is the one behind the mode code, which is not stepped into (Figure 4-10); a new line is passed (Figure 4-9)
 abbrev pub turnOf : List ℕ → Size → Sought → ℕ → Turn
-turnOf words s Cursor a = cond (cursorOf (wordAt words s a)) (Ends (At (wrapOf s a))) (On (aheadOf s a 1))
+turnOf words s Cursor a = cond (cursorAt words s a) (Ends (At (wrapOf s a))) (On (aheadOf s a 1))
 turnOf words s Order a = cond (orderAt words s a) (Ends (At (wrapOf s a))) (On (backOf s a 2))
 turnOf words s Forward a =
     cond (orderAt words s a) (Ends Nowhere) (cond (lineAt words s a) (On (aheadOf s a 1)) (Ends (At (wrapOf s a))))

@@ -5,7 +5,8 @@ use mathlib.Core.Bool.{Bool, true, false, cond}
 use Rattle.orders.specs.declared.Mode.{Mode}
 use Rattle.refusals.specs.declared.Refusal.{Refusal}
 use Rattle.device.specs.declared.Device.{Device}
-use Rattle.seek.specs.Seek.{lineAt, cursorIn, forwardOf, backwardOf}
+use Rattle.signs.specs.Signs.{lineAt}
+use Rattle.seek.specs.Seek.{cursorIn, forwardOf, backwardOf}
 use Rattle.seek.specs.declared.Spot.{Spot}
 use Rattle.seek.specs.declared.Spot.the-variants.{At, Nowhere}
 use Rattle.fields.specs.Fields.{fieldOf}

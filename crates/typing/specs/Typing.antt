@@ -17,7 +17,8 @@ use Rattle.refusals.specs.declared.Refusal.{Refusal}
 use Rattle.refusals.specs.declared.Refusal.the-variants.{UnknownKey}
 use Rattle.buffer.specs.Buffer.{otherOf}
 use Rattle.device.specs.declared.Device.{Device}
-use Rattle.seek.specs.Seek.{byteAt, evenOf, orderAt, orderBehind}
+use Rattle.signs.specs.Signs.{byteAt, evenOf, orderAt}
+use Rattle.seek.specs.Seek.{orderBehind}
 use Rattle.seek.specs.Laws.{order-there}
 use Rattle.fields.specs.Fields.{fieldBy, fieldOf}
 use Rattle.fields.specs.declared.Field.{Field}

@@ -3,8 +3,8 @@ use borrow.Author.Needs.{needs}
 use Rattle.seek.proofs.forward.Statement.{statement}
 use Rattle.seek.proofs.forward.Tie as tie
 
-next-requires : tie.Need-next-requires
-next-requires c κs = search needs
+ahead-requires : tie.Need-ahead-requires
+ahead-requires c κs = search needs
 
 size-of-requires : tie.Need-size-of-requires
 size-of-requires c κs = search needs
@@ -14,7 +14,7 @@ seek-requires c κs = search needs
 
 returns : tie.Need-returns
 unfolding forwardOf
-returns c = simp (c .before .size-of .ensures .0, c .before .before .next .ensures) at (c .seek .ensures)
+returns c = simp (c .before .size-of .ensures .0, c .before .before .ahead .ensures .0) at (c .seek .ensures)
 
 pub forward-spec : {M : Type 1} → statement M
-forward-spec = tie.close (tie.spec next-requires size-of-requires seek-requires returns)
+forward-spec = tie.close (tie.spec ahead-requires size-of-requires seek-requires returns)

@@ -11,8 +11,8 @@ cursor-at-requires c κs = search needs
 here-requires : tie.Need-here-requires
 here-requires c κs = search needs
 
-next-requires : tie.Need-next-requires
-next-requires c κs = search needs
+ahead-requires : tie.Need-ahead-requires
+ahead-requires c κs = search needs
 
 enum-told-2 : tie.Need-enum-told-2
 enum-told-2 c = search needs
@@ -38,8 +38,8 @@ returns c = simp (c .before .before .enum-told3 .given .1, ← c .before .order-
 line-at-requires : tie.Need-line-at-requires
 line-at-requires c κs = search needs
 
-next-requires-2 : tie.Need-next-requires-2
-next-requires-2 c κs = search needs
+ahead-requires-2 : tie.Need-ahead-requires-2
+ahead-requires-2 c κs = search needs
 
 here-requires-3 : tie.Need-here-requires-3
 here-requires-3 c κs = search needs
@@ -69,7 +69,7 @@ returns-3 : tie.Need-returns-3
 returns-3 c = simp (c .before .before .before .enum-told .given .1, ← c .before .before .cursor-at .ensures, c .before .if1 .taken) (c .here .ensures)
 
 returns-4 : tie.Need-returns-4
-returns-4 c = simp (c .before .before .before .enum-told .given .1, ← c .before .before .cursor-at .ensures, c .before .if1 .left, c .next .ensures)
+returns-4 c = simp (c .before .before .before .enum-told .given .1, ← c .before .before .cursor-at .ensures, c .before .if1 .left, c .ahead .ensures .0)
 
 returns-5 : tie.Need-returns-5
 returns-5 c = simp (c .before .before .before .enum-told2 .given .1, ← c .before .before .order-at .ensures, c .before .if2 .taken) (c .here2 .ensures)
@@ -78,7 +78,7 @@ returns-6 : tie.Need-returns-6
 returns-6 c = simp (c .before .before .before .enum-told2 .given .1, ← c .before .before .order-at .ensures, c .before .if2 .left, c .back .ensures)
 
 returns-7 : tie.Need-returns-7
-returns-7 c = simp (c .before .before .before .before .before .enum-told3 .given .1, ← c .before .before .before .before .order-at2 .ensures, c .before .before .before .if3 .left, ← c .before .before .line-at .ensures, c .before .if4 .taken, c .next2 .ensures)
+returns-7 c = simp (c .before .before .before .before .before .enum-told3 .given .1, ← c .before .before .before .before .order-at2 .ensures, c .before .before .before .if3 .left, ← c .before .before .line-at .ensures, c .before .if4 .taken, c .ahead2 .ensures .0)
 
 returns-8 : tie.Need-returns-8
 returns-8 c = simp (c .before .before .before .before .before .enum-told3 .given .1, ← c .before .before .before .before .order-at2 .ensures, c .before .before .before .if3 .left, ← c .before .before .line-at .ensures, c .before .if4 .left) (c .here3 .ensures)
@@ -96,7 +96,7 @@ turn-of-spec =
     enum-told
     cursor-at-requires
     here-requires
-    next-requires
+    ahead-requires
     enum-told-2
     order-at-requires
     here-requires-2
@@ -105,7 +105,7 @@ turn-of-spec =
     order-at-requires-2
     returns
     line-at-requires
-    next-requires-2
+    ahead-requires-2
     here-requires-3
     enum-told-4
     back-requires-2

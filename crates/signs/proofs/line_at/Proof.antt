@@ -1,7 +1,7 @@
-use Rattle.seek.specs.Seek.{lineAt}
+use Rattle.signs.specs.Signs.{lineAt}
 use borrow.Author.Needs.{needs}
-use Rattle.seek.proofs.line_at.Statement.{statement}
-use Rattle.seek.proofs.line_at.Tie as tie
+use Rattle.signs.proofs.line_at.Statement.{statement}
+use Rattle.signs.proofs.line_at.Tie as tie
 
 byte-at-requires : tie.Need-byte-at-requires
 byte-at-requires c κs = search needs

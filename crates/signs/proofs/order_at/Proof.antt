@@ -1,8 +1,8 @@
-use Rattle.seek.specs.Seek.{orderAt}
+use Rattle.signs.specs.Signs.{orderAt}
 use borrow.Author.Tests.{eq-eqb, ne-eqb}
 use borrow.Author.Needs.{needs}
-use Rattle.seek.proofs.order_at.Statement.{statement}
-use Rattle.seek.proofs.order_at.Tie as tie
+use Rattle.signs.proofs.order_at.Statement.{statement}
+use Rattle.signs.proofs.order_at.Tie as tie
 
 wrap-requires : tie.Need-wrap-requires
 wrap-requires c κs = search needs

@@ -1,6 +1,6 @@
 use borrow.Author.Needs.{needs}
-use Rattle.seek.proofs.word_at.Statement.{statement}
-use Rattle.seek.proofs.word_at.Tie as tie
+use Rattle.signs.proofs.word_at.Statement.{statement}
+use Rattle.signs.proofs.word_at.Tie as tie
 
 wrap-requires : tie.Need-wrap-requires
 wrap-requires c κs = search needs

@@ -1,7 +1,7 @@
-use Rattle.seek.specs.Seek.{byteAt}
+use Rattle.signs.specs.Signs.{byteAt}
 use borrow.Author.Needs.{needs}
-use Rattle.seek.proofs.byte_at.Statement.{statement}
-use Rattle.seek.proofs.byte_at.Tie as tie
+use Rattle.signs.proofs.byte_at.Statement.{statement}
+use Rattle.signs.proofs.byte_at.Tie as tie
 
 word-at-requires : tie.Need-word-at-requires
 word-at-requires c κs = search needs

@@ -1,6 +1,6 @@
 use borrow.Author.Needs.{needs}
-use Rattle.seek.proofs.cursor_at.Statement.{statement}
-use Rattle.seek.proofs.cursor_at.Tie as tie
+use Rattle.signs.proofs.cursor_at.Statement.{statement}
+use Rattle.signs.proofs.cursor_at.Tie as tie
 
 word-at-requires : tie.Need-word-at-requires
 word-at-requires c κs = search needs
