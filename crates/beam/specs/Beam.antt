@@ -41,14 +41,17 @@ stepped p dx dy = beamAt (summed (p .x) dx) (summed (p .y) dy)
 unfoldable pub blankedStep : ℕ → Bool
 blankedStep dy = eqb (dy % 2) 1
 
--- "Basic characters stand 14 apart and 20 down, large 21 and 30" (000 p.27, Figure 11)
+-- "large (1-1/2 times the basic)" (001 1-8): a distance of basic characters as it is in a size
+abbrev pub spaced : CharacterSize → ℕ → ℕ
+spaced Basic basic = basic
+spaced Large basic = basic * 3 / 2
+
+-- "Basic characters stand 14 apart and 20 down" (000 p.27, Figure 11)
 abbrev pub across : CharacterSize → ℕ
-across Basic = 14
-across Large = 21
+across size = spaced size 14
 
 abbrev pub down : CharacterSize → ℕ
-down Basic = 20
-down Large = 30
+down size = spaced size 20
 
 -- "Y down, and below 0 Y becomes 1,023 (house)"
 unfoldable pub lineBelow : ℕ → ℕ → ℕ

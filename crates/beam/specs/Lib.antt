@@ -1,2 +1,3 @@
 pub mod Beam
+pub mod Spacings
 pub mod Starred

@@ -1,8 +1,8 @@
 // The beam of the display: absolute coordinates, increments, spacings and new line. It knows numbers alone, and of a
 // coordinate that is handed over it takes the ten lowest bits.
 ghost use mathlib.Core.Path.{_≡_};
-ghost use Prim.Native.Nat.{_<_, _≤_};
-ghost use Rattle.beam.specs.Beam.{tenBits, absolute, placed, blankedPlace, increment, summed, stepped, blankedStep, across, down, lineBelow, newLine, afterCharacter, highByte, lowByte};
+ghost use Prim.Native.Nat.{_*_, _/_, _<_, _≤_};
+ghost use Rattle.beam.specs.Beam.{tenBits, absolute, placed, blankedPlace, increment, summed, stepped, blankedStep, spaced, across, down, lineBelow, newLine, afterCharacter, highByte, lowByte};
 
 // Where the beam stands.
 pub struct Beam {
@@ -16,15 +16,11 @@ pub enum CharacterSize {
     Large,
 }
 
-// Raster units from a character to the next one.
-const BASIC_ACROSS: u16 = 14;
+// Raster units from a basic character to the next one.
+const ACROSS: u8 = 14;
 
-const LARGE_ACROSS: u16 = 21;
-
-// Raster units from a line to the next one.
-const BASIC_DOWN: u16 = 20;
-
-const LARGE_DOWN: u16 = 30;
+// Raster units from a line of basic characters to the next one.
+const DOWN: u8 = 20;
 
 // A coordinate's ten bits.
 fn ten_bits(c: u16) -> u16
@@ -92,24 +88,28 @@ pub fn blanked_step(dy: u8) -> bool
     dy % 2 == 1
 }
 
+// A distance of basic characters as it is in a size.
+fn spaced_in(size: CharacterSize, basic: u8) -> u16
+    ensures { λ r. ⌜ (r ≡ spaced size basic) × (r ≤ basic * 3 / 2) ⌝ }
+{
+    match size {
+        CharacterSize::Basic => basic as u16,
+        CharacterSize::Large => basic as u16 * 3 / 2,
+    }
+}
+
 // How far a character stands from the one before.
 fn across_of(size: CharacterSize) -> u16
     ensures { λ r. ⌜ (r ≡ across size) × (r ≤ 21) ⌝ }
 {
-    match size {
-        CharacterSize::Basic => BASIC_ACROSS,
-        CharacterSize::Large => LARGE_ACROSS,
-    }
+    spaced_in(size, ACROSS)
 }
 
 // How far a line stands below the one before.
 fn down_of(size: CharacterSize) -> u16
     ensures { λ r. ⌜ (r ≡ down size) × (r ≤ 30) ⌝ }
 {
-    match size {
-        CharacterSize::Basic => BASIC_DOWN,
-        CharacterSize::Large => LARGE_DOWN,
-    }
+    spaced_in(size, DOWN)
 }
 
 // The Y of the line that is so far below.
