@@ -11,7 +11,7 @@ use lib.Seq.{take-all, drop-cons, take-suc-set, set-split, drop-set-lt}
 use Rattle.location.specs.Location.{wordOf}
 use Rattle.orders.specs.declared.Size.{Size}
 use Rattle.buffer.specs.declared.Read.{Read}
-use Rattle.buffer.specs.Buffer.{nextOf, writtenFrom, behind, givenOf, goesOn, endedAt, givenFrom, readFrom}
+use Rattle.buffer.specs.Buffer.{nextOf, countStored, writtenFrom, countFrom, behind, givenOf, goesOn, endedAt, givenFrom, readFrom}
 
 module _ (s : Size) (a : ℕ) (bytes : List ℕ) (i : ℕ) (words : List ℕ) where
   pub write-one : i < length bytes
@@ -30,6 +30,16 @@ module _ (s : Size) (a : ℕ) (bytes : List ℕ) (i : ℕ) (words : List ℕ) wh
   pub behind-all : length bytes ≤ i → behind s a (drop i bytes) ≡ a
   unfolding behind
   behind-all h = rw (drop-of-length-le bytes h)
+
+  module _ (n : ℕ) where
+    pub count-one : i < length bytes
+        → countFrom s a (drop i bytes) words n ≡ countFrom s (nextOf s a) (drop (i + 1) bytes) (set words a (wordOf (getD bytes i 0) false true)) (countStored a (wordOf (getD bytes i 0) false true) words n)
+    unfolding countFrom
+    count-one h = rw (add-one i, drop-cons bytes i 0)
+
+    pub count-all : length bytes ≤ i → countFrom s a (drop i bytes) words n ≡ n
+    unfolding countFrom
+    count-all h = rw (drop-of-length-le bytes h)
 
 module _ (words : List ℕ) (s : Size) (seek : Bool) (a : ℕ) (room : List ℕ) (i : ℕ) where
   -- the room with the byte of this turn

@@ -1,12 +1,15 @@
-// The buffer's words under writes, reads and the cursor commands.
+// The buffer's words under writes, reads and the cursor commands. Whoever stores also answers the number of set cursor bits, given the
+// number before.
 //
 // The contracts cite `specs/Buffer.antt`.
 use orders::Size;
 ghost use mathlib.Core.Path.{_≡_};
 ghost use mathlib.Core.Bool.{true, false, cond, not, _&&_};
 ghost use Prim.Native.Nat.{_+_, _<_};
-ghost use Rattle.buffer.specs.Buffer.{nextOf, wordsWritten, addressWritten, givenOf, goesOn, endedAt, roomRead, readOf, cursorSet, otherOf, cursorAt, cursorRemoved, cursorCleared, cursorInserted};
+ghost use lib.ListN.{set};
+ghost use Rattle.buffer.specs.Buffer.{nextOf, countStored, wordsWritten, writeEnded, givenOf, goesOn, endedAt, roomRead, readOf, cursorSet, otherOf, cursorAt, cursorRemoved, countRemoved, cursorCleared, countCleared, cursorInserted, countInserted};
 ghost use Rattle.location.specs.Location.{cursorOf};
+ghost use Rattle.orders.specs.Orders.{wrapOf};
 
 // How a read ended: the bytes given, the address then, and whether the parity of all was good.
 pub struct Read {
@@ -15,18 +18,51 @@ pub struct Read {
     pub good: bool,
 }
 
-// Writes the bytes from an address on, and answers the address behind them.
-pub fn write_in(words: &mut [u16; 8192], size: Size, at: usize, bytes: &[u8]) -> usize
-    ensures { λ r. ⌜ (r ≡ addressWritten size at (now (bytes .entry))) × (now (words .exit) ≡ wordsWritten size at (now (bytes .entry)) (now (words .entry))) ⌝ }
+// How a write ended: the address behind the last byte, and the number of set cursor bits.
+pub struct Written {
+    pub address: usize,
+    pub cursors: u16,
+}
+
+// Stores a word in a location.
+fn store(words: &mut [u16; 8192], cursors: u16, a: usize, word: u16) -> u16
+    requires { ⌜ a < 8192 ⌝ }
+    ensures { λ r. ⌜ (r ≡ countStored a word (now (words .entry)) cursors) × (now (words .exit) ≡ set (now (words .entry)) a word) ⌝ }
+{
+    let old = words[a];
+    words[a] = word;
+    counts::recount(cursors, old, word)
+}
+
+// Stores a word at an address.
+pub fn store_at(words: &mut [u16; 8192], cursors: u16, size: Size, at: usize, word: u16) -> u16
+    ensures { λ r. ⌜ (r ≡ countStored (wrapOf size at) word (now (words .entry)) cursors) × (now (words .exit) ≡ set (now (words .entry)) (wrapOf size at) word) ⌝ }
+{
+    store(words, cursors, orders::wrap(size, at), word)
+}
+
+// Writes the bytes from an address on.
+pub fn write_in(
+    words: &mut [u16; 8192],
+    cursors: u16,
+    size: Size,
+    at: usize,
+    bytes: &[u8],
+) -> Written
+    ensures { λ r. ⌜ (r ≡ writeEnded size at (now (bytes .entry)) (now (words .entry)) cursors) × (now (words .exit) ≡ wordsWritten size at (now (bytes .entry)) (now (words .entry))) ⌝ }
 {
     let mut a = orders::wrap(size, at);
+    let mut count = cursors;
     let mut i = 0;
     while i < bytes.len() {
-        words[a] = location::word_of(bytes[i], false, true);
+        count = store(words, count, a, location::word_of(bytes[i], false, true));
         a = orders::wrap(size, a + 1);
         i += 1;
     }
-    a
+    Written {
+        address: a,
+        cursors: count,
+    }
 }
 
 // Whether a read that seeks the cursor has found it.
@@ -120,31 +156,33 @@ fn other(a: usize) -> usize
 }
 
 // Clears the cursor bit at an address.
-pub fn remove_cursor(words: &mut [u16; 8192], size: Size, at: usize)
-    ensures { λ _. ⌜ now (words .exit) ≡ cursorRemoved size at (now (words .entry)) ⌝ }
+pub fn remove_cursor(words: &mut [u16; 8192], cursors: u16, size: Size, at: usize) -> u16
+    ensures { λ r. ⌜ (r ≡ countRemoved size at (now (words .entry)) cursors) × (now (words .exit) ≡ cursorRemoved size at (now (words .entry))) ⌝ }
 {
     let a = orders::wrap(size, at);
     let word = words[a];
-    words[a] = with_cursor(word, false);
+    store(words, cursors, a, with_cursor(word, false))
 }
 
 // Clears the cursor bit at an address, where it is set.
-fn clear_cursor(words: &mut [u16; 8192], a: usize)
+fn clear_cursor(words: &mut [u16; 8192], cursors: u16, a: usize) -> u16
     requires { ⌜ a < 8192 ⌝ }
-    ensures { λ _. ⌜ now (words .exit) ≡ cursorCleared a (now (words .entry)) ⌝ }
+    ensures { λ r. ⌜ (r ≡ countCleared a (now (words .entry)) cursors) × (now (words .exit) ≡ cursorCleared a (now (words .entry))) ⌝ }
 {
     let word = words[a];
     if location::cursor_of(word) {
-        words[a] = with_cursor(word, false);
+        store(words, cursors, a, with_cursor(word, false))
+    } else {
+        cursors
     }
 }
 
 // Sets the cursor bit at an address, and clears it at the other location of the pair.
-pub fn insert_cursor(words: &mut [u16; 8192], size: Size, at: usize)
-    ensures { λ _. ⌜ now (words .exit) ≡ cursorInserted size at (now (words .entry)) ⌝ }
+pub fn insert_cursor(words: &mut [u16; 8192], cursors: u16, size: Size, at: usize) -> u16
+    ensures { λ r. ⌜ (r ≡ countInserted size at (now (words .entry)) cursors) × (now (words .exit) ≡ cursorInserted size at (now (words .entry))) ⌝ }
 {
     let a = orders::wrap(size, at);
-    clear_cursor(words, other(a));
+    let cleared = clear_cursor(words, cursors, other(a));
     let word = words[a];
-    words[a] = with_cursor(word, true);
+    store(words, cleared, a, with_cursor(word, true))
 }

@@ -8,12 +8,12 @@ use Rattle.orders.specs.Orders.{wrapOf}
 use Rattle.orders.specs.declared.Mode.{Mode}
 use Rattle.orders.specs.declared.Mode.the-variants.{Idle, Point, Vector, IncrementalPoint, IncrementalVector, Basic, Large}
 use Rattle.beam.specs.Beam.{highByte, lowByte}
-use Rattle.buffer.specs.Buffer.{wordsWritten, addressWritten, readOf, roomRead, cursorInserted, cursorRemoved}
+use Rattle.buffer.specs.Buffer.{wordsWritten, addressWritten, countWritten, readOf, roomRead, cursorInserted, countInserted, cursorRemoved, countRemoved}
 use Rattle.buffer.specs.declared.Read.{Read}
 use Rattle.device.specs.declared.State.{State}
 use Rattle.device.specs.declared.Sense.{Sense}
 use Rattle.device.specs.declared.Device.{Device}
-use Rattle.device.specs.Device.{noSense, withState}
+use Rattle.device.specs.Device.{noSense, withState, anyCursor}
 use Rattle.codes.specs.Codes.{addressIn, sentBy, classOf, allowed}
 use Rattle.codes.specs.declared.Class.{Class}
 use Rattle.codes.specs.declared.Class.the-variants as class
@@ -43,12 +43,12 @@ checked = 0x0E
 abbrev pub answers : Device → ℕ → ℕ → Answered
 answers d status count = record { device = d; answer = reply.Status status count }
 
--- a device with other sense bits, other words, another address
+-- a device with other sense bits, other words and their number of cursor bits, another address
 abbrev pub withSense : Device → Sense → Device
-withSense d s = record { words = d .words; state = d .state; status = d .status; sense = s }
+withSense d s = record { words = d .words; state = d .state; status = d .status; sense = s; cursors = d .cursors }
 
-abbrev pub withWords : Device → List ℕ → Device
-withWords d words = record { words = words; state = d .state; status = d .status; sense = d .sense }
+abbrev pub withWords : Device → List ℕ → ℕ → Device
+withWords d words n = record { words = words; state = d .state; status = d .status; sense = d .sense; cursors = n }
 
 abbrev pub withAddress : State → ℕ → State
 withAddress s a = record { size = s .size; address = a; mode = s .mode; running = s .running; beam = s .beam; pen = s .pen }
@@ -58,7 +58,7 @@ abbrev pub busy : ℕ → ℕ
 busy status = cond (eqb (status / 0x10 % 2) 1) status (status + 0x10)
 
 abbrev pub withoutStatus : Device → Device
-withoutStatus d = record { words = d .words; state = d .state; status = 0; sense = d .sense }
+withoutStatus d = record { words = d .words; state = d .state; status = 0; sense = d .sense; cursors = d .cursors }
 
 abbrev pub waitingOf : Device → ℕ → Answered
 waitingOf d code = answers (withoutStatus d) (cond (eqb code 0x00) (d .status) (busy (d .status))) 0
@@ -126,17 +126,17 @@ keptOf d code room =
 abbrev pub writtenBy : Device → List ℕ → Answered
 writtenBy d bytes =
     answers
-    (record { words = wordsWritten (d .state .size) (d .state .address) bytes (d .words); state = withAddress (d .state) (addressWritten (d .state .size) (d .state .address) bytes); status = d .status; sense = d .sense })
+    (record { words = wordsWritten (d .state .size) (d .state .address) bytes (d .words); state = withAddress (d .state) (addressWritten (d .state .size) (d .state .address) bytes); status = d .status; sense = d .sense; cursors = countWritten (d .state .size) (d .state .address) bytes (d .words) (d .cursors) })
     done 0
 
 -- a read that ended: "ends with 0E and Data Check" where parity was bad
 abbrev pub readEnded : Device → Read → Answered
 readEnded d r =
     answers
-    (record { words = d .words; state = withAddress (d .state) (r .address); status = d .status; sense = onlyOf false (not (r .good)) })
+    (record { words = d .words; state = withAddress (d .state) (r .address); status = d .status; sense = onlyOf false (not (r .good)); cursors = d .cursors })
     (cond (r .good) done checked) (r .count)
 
--- Read Buffer, and Read Cursor, which seeks the cursor
+-- Read Buffer, and Read Cursor, which seeks the cursor where there is any (02, C-15)
 abbrev pub readBy : Device → Bool → List ℕ → Outcome
 readBy d seek room =
     outcome (readEnded d (readOf (d .words) (d .state .size) seek (d .state .address) room))
@@ -148,14 +148,23 @@ placeRead d room =
     outcome (answers d done (fourCount room))
     (fourIn room (highByte (d .state .beam .x)) (lowByte (d .state .beam .x)) (highByte (d .state .beam .y)) (lowByte (d .state .beam .y)))
 
+-- Insert Cursor and Remove Cursor
+abbrev pub insertedBy : Device → Device
+insertedBy d =
+    withWords d (cursorInserted (d .state .size) (d .state .address) (d .words)) (countInserted (d .state .size) (d .state .address) (d .words) (d .cursors))
+
+abbrev pub removedBy : Device → Device
+removedBy d =
+    withWords d (cursorRemoved (d .state .size) (d .state .address) (d .words)) (countRemoved (d .state .size) (d .state .address) (d .words) (d .cursors))
+
 -- the commands that want a stopped unit
 abbrev pub stoppedOf : Device → ℕ → List ℕ → Outcome
 stoppedOf d code room =
     cond (eqb code 0x02) (readBy d false room)
-    (cond (eqb code 0x06) (readBy d true room)
-    (cond (eqb code 0x0F) (outcome (answers (withWords d (cursorInserted (d .state .size) (d .state .address) (d .words))) done 0) room)
+    (cond (eqb code 0x06) (readBy d (anyCursor d) room)
+    (cond (eqb code 0x0F) (outcome (answers (insertedBy d) done 0) room)
     (cond (eqb code 0x12) (placeRead d room)
-    (outcome (answers (withWords d (cursorRemoved (d .state .size) (d .state .address) (d .words))) done 0) room))))
+    (outcome (answers (removedBy d) done 0) room))))
 
 -- "Set Buffer Address and Start begins in idle mode, Stop keeps the mode (house)."
 abbrev pub startedAt : State → ℕ → State

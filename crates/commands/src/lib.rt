@@ -14,8 +14,7 @@ ghost use mathlib.Core.Bool.{cond, not, _&&_};
 ghost use Prim.Native.Nat.{_+_, _≤_, _<_};
 ghost use lib.Dec.{eqb, ltb};
 ghost use lib.ListN.{set};
-ghost use Rattle.buffer.specs.Buffer.{cursorInserted, cursorRemoved};
-ghost use Rattle.commands.specs.Commands.{outcome, answers, busy, waitingOf, rejectedOf, reset, onlyOf, withWords, bit, isCharacter, senseZero, senseOne, senseAddress, fourIn, fourCount, senseGiven, sensed, keptOf, writtenBy, readEnded, readBy, placeRead, stoppedOf, startedAt, stoppedAt, addressedOf, doneOf, triedOf, commandOf, withAddress};
+ghost use Rattle.commands.specs.Commands.{outcome, answers, busy, waitingOf, rejectedOf, reset, onlyOf, bit, isCharacter, senseZero, senseOne, senseAddress, fourIn, fourCount, senseGiven, sensed, keptOf, writtenBy, readEnded, readBy, placeRead, insertedBy, removedBy, stoppedOf, startedAt, stoppedAt, addressedOf, doneOf, triedOf, commandOf, withAddress};
 
 // What a command answers: its status and how many bytes it gave, or a refusal.
 pub enum Reply {
@@ -237,8 +236,10 @@ fn write_buffer(mut device: Device, bytes: &[u8]) -> Answered
 {
     let state = device.state;
     let size = state.size;
-    let address = buffer::write_in(&mut device.words, size, state.address, bytes);
-    device.state = with_address(state, address);
+    let cursors = device.cursors;
+    let written = buffer::write_in(&mut device.words, cursors, size, state.address, bytes);
+    device.cursors = written.cursors;
+    device.state = with_address(state, written.address);
     answer(device, 0x0C, 0)
 }
 
@@ -284,21 +285,23 @@ fn read_xy(device: Device, room: &mut [u8]) -> Answered
 
 // Insert Cursor.
 fn insert_cursor(mut device: Device) -> Answered
-    ensures { λ r. ⌜ r ≡ answers (withWords device (cursorInserted (device .state .size) (device .state .address) (device .words))) 0x0C 0 ⌝ }
+    ensures { λ r. ⌜ r ≡ answers (insertedBy device) 0x0C 0 ⌝ }
 {
     let state = device.state;
     let size = state.size;
-    buffer::insert_cursor(&mut device.words, size, state.address);
+    let cursors = device.cursors;
+    device.cursors = buffer::insert_cursor(&mut device.words, cursors, size, state.address);
     answer(device, 0x0C, 0)
 }
 
 // Remove Cursor.
 fn remove_cursor(mut device: Device) -> Answered
-    ensures { λ r. ⌜ r ≡ answers (withWords device (cursorRemoved (device .state .size) (device .state .address) (device .words))) 0x0C 0 ⌝ }
+    ensures { λ r. ⌜ r ≡ answers (removedBy device) 0x0C 0 ⌝ }
 {
     let state = device.state;
     let size = state.size;
-    buffer::remove_cursor(&mut device.words, size, state.address);
+    let cursors = device.cursors;
+    device.cursors = buffer::remove_cursor(&mut device.words, cursors, size, state.address);
     answer(device, 0x0C, 0)
 }
 
@@ -310,7 +313,7 @@ fn stopped(device: Device, code: u8, room: &mut [u8]) -> Answered
         return read_buffer(device, false, room);
     }
     if code == 0x06 {
-        return read_buffer(device, true, room);
+        return read_buffer(device, device::any_cursor(device), room);
     }
     if code == 0x0F {
         return insert_cursor(device);

@@ -1,12 +1,13 @@
 -- The device: what it holds, what a fresh one is, and what loading a dump and moving the pen's switch make of it
 -- (01, "Locations and the device").
 use Prim.Native.Nat.{ℕ, _-_, _/_}
-use mathlib.Core.Bool.{Bool, true, false, cond, _&&_}
+use mathlib.Core.Bool.{Bool, true, false, cond, not, _&&_}
 use mathlib.Core.List.{List, [], _∷_, _++_}
 use lib.Dec.{eqb}
 use lib.ListN.{length, replicate}
 use Rattle.location.specs.Location.{freshWord, properOf}
 use Rattle.orders.specs.Orders.{sizeOf}
+use Rattle.counts.specs.Counts.{cursorsIn}
 use Rattle.orders.specs.declared.Size.{Size}
 use Rattle.orders.specs.declared.Size.the-variants.{K4, K8}
 use Rattle.orders.specs.declared.Mode.{Mode}
@@ -33,13 +34,13 @@ freshState s = record { size = s; address = 0; mode = Idle; running = false; bea
 abbrev pub noSense : Sense
 noSense = record { reject = false; check = false; detect = false; ended = false; given = false }
 
--- a fresh device but for its words
-abbrev pub freshWith : Size → List ℕ → Device
-freshWith s words = record { words = words; state = freshState s; status = 0; sense = noSense }
+-- a fresh device but for its words and the number of their cursor bits
+abbrev pub freshWith : Size → List ℕ → ℕ → Device
+freshWith s words n = record { words = words; state = freshState s; status = 0; sense = noSense; cursors = n }
 
 -- "A fresh device has all locations zero but for P = 1"
 abbrev pub freshOf : Size → Device
-freshOf s = freshWith s (replicate 8192 freshWord)
+freshOf s = freshWith s (replicate 8192 freshWord) 0
 
 -- "size is neither 4,096 nor 8,192" is refusal 1
 abbrev pub sizedOf : ℕ → Sized
@@ -54,6 +55,10 @@ allProper (w ∷ ws) = properOf w && allProper ws
 unfoldable pub dumpWords : List ℕ → List ℕ
 dumpWords dump = dump ++ replicate (8192 - length dump) freshWord
 
+-- a fresh device with the words of a dump, and the full count of their cursor bits (02, C-15)
+abbrev pub freshLoaded : Size → List ℕ → Device
+freshLoaded s dump = freshWith s (dumpWords dump) (cursorsIn (sizeOf s) (dumpWords dump))
+
 abbrev pub refusedBy : Device → Refusal → Loaded
 refusedBy d r = record { device = d; answer = answer.Refused r }
 
@@ -62,7 +67,7 @@ abbrev pub loadedBy : Device → List ℕ → Sized → Loaded
 loadedBy d dump (sized.Refused r) = refusedBy d r
 loadedBy d dump (sized.Of s) =
     cond (eqb (length dump) (sizeOf s))
-    (cond (allProper dump) (record { device = freshWith s (dumpWords dump); answer = answer.Done }) (refusedBy d UnusedBit))
+    (cond (allProper dump) (record { device = freshLoaded s dump; answer = answer.Done }) (refusedBy d UnusedBit))
     (refusedBy d WrongCount)
 
 unfoldable pub loadOf : Device → ℕ → List ℕ → Loaded
@@ -74,8 +79,12 @@ withPen s p = record { size = s .size; address = s .address; mode = s .mode; run
 
 -- a device with another state
 abbrev pub withState : Device → State → Device
-withState d s = record { words = d .words; state = s; status = d .status; sense = d .sense }
+withState d s = record { words = d .words; state = s; status = d .status; sense = d .sense; cursors = d .cursors }
 
 -- "Opening or closing the switch is a call; a repeat changes nothing."
 unfoldable pub switchedOf : Device → Bool → Device
 switchedOf d closed = withState d (withPen (d .state) (switched (d .state .pen) closed))
+
+-- "Is there any cursor at all?": "The answer comes from it alone", the number of set cursor bits (02, C-15)
+abbrev pub anyCursor : Device → Bool
+anyCursor d = not (eqb (d .cursors) 0)

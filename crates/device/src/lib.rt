@@ -1,4 +1,5 @@
-// The device: its words and its state by value, the fresh one, loading a dump, Halt I/O and the pen's switch.
+// The device: its words and its state by value, the fresh one, loading a dump, Halt I/O, the pen's switch, and whether there is any
+// cursor.
 //
 // The contracts cite `specs/Device.antt`.
 use beam::Beam;
@@ -12,7 +13,7 @@ ghost use Prim.Native.Nat.{ℕ, _<_, _≤_};
 ghost use lib.ListN.{length, drop, getD};
 ghost use Rattle.orders.specs.Orders.{sizeOf};
 ghost use Rattle.location.specs.Location.{freshWord};
-ghost use Rattle.device.specs.Device.{freshOf, freshWith, sizedOf, allProper, dumpWords, refusedBy, loadedBy, loadOf, withPen, withState, switchedOf};
+ghost use Rattle.device.specs.Device.{freshOf, freshLoaded, sizedOf, allProper, dumpWords, refusedBy, loadedBy, loadOf, withPen, withState, switchedOf, anyCursor};
 
 // What moves while the unit regenerates.
 pub struct State {
@@ -33,12 +34,13 @@ pub struct Sense {
     pub given: bool,
 }
 
-// The whole unit. A status of 0 is no status waiting.
+// The whole unit. A status of 0 is no status waiting; `cursors` is the number of set cursor bits.
 pub struct Device {
     pub words: [u16; 8192],
     pub state: State,
     pub status: u8,
     pub sense: Sense,
+    pub cursors: u16,
 }
 
 // A number taken as a size.
@@ -82,6 +84,7 @@ pub fn fresh(size: Size) -> Device
             ended: false,
             given: false,
         },
+        cursors: 0,
     }
 }
 
@@ -127,10 +130,11 @@ fn put_dump(words: &mut [u16; 8192], dump: &[u16])
 // A fresh device with the words of a dump.
 fn with_dump(size: Size, dump: &[u16]) -> Device
     requires { ⌜ length (now dump) ≤ 8192 ⌝ }
-    ensures { λ r. ⌜ r ≡ freshWith size (dumpWords (now (dump .entry))) ⌝ }
+    ensures { λ r. ⌜ r ≡ freshLoaded size (now (dump .entry)) ⌝ }
 {
     let mut d = fresh(size);
     put_dump(&mut d.words, dump);
+    d.cursors = counts::count_in(&d.words, size);
     d
 }
 
@@ -198,4 +202,11 @@ pub fn switch_to(mut device: Device, closed: bool) -> Device
     let pen = state.pen;
     device.state = with_pen(state, pen::after_switch(pen, closed));
     device
+}
+
+// Whether any cursor bit is set, by the number of them alone.
+pub fn any_cursor(device: Device) -> bool
+    ensures { λ r. ⌜ r ≡ anyCursor device ⌝ }
+{
+    device.cursors != 0
 }

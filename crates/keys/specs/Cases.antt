@@ -1,10 +1,12 @@
 -- Worked cases of the keyboard, as one table over the definitions: 001, Figures 4-5 to 4-14, Example 3 of 000 (p.31 and 32), the
 -- texts that 001 corrects, and the cases that the books leave open.
 use mathlib.Core.Path.{_≡_, refl}
-use mathlib.Core.Bool.{true, false}
+use mathlib.Core.Bool.{Bool, true, false}
 use mathlib.Core.List.{List, [], _∷_, _++_, map}
 use Prim.Native.Nat.{ℕ}
 use lib.Count.{ones, onesIn}
+use lib.Dec.{eqb}
+use lib.ListN.{length}
 use Rattle.location.specs.Location.{wordOf}
 use Rattle.orders.specs.Orders.{table, findIn, orderOf}
 use Rattle.orders.specs.declared.Size.the-variants.{K4}
@@ -16,7 +18,8 @@ use Rattle.motion.specs.Motion.{motionOf, twoOf, fourOf}
 use Rattle.motion.specs.Codes.{draws}
 use Rattle.beam.specs.Beam.{blankedPlace}
 use Rattle.drawing.specs.Drawing.{codeStrokes, codesStrokes, strokesOf, hasCursor, hitIn}
-use Rattle.buffer.specs.Buffer.{cursorCleared, cursorInserted}
+use Rattle.counts.specs.Counts.{cursorsIn, recounted}
+use Rattle.buffer.specs.Buffer.{cursorCleared, countCleared, cursorInserted, countInserted}
 use Rattle.device.specs.Device.{freshWith}
 use Rattle.device.specs.declared.Device.{Device}
 use Rattle.step.specs.Step.{seenOf, advanceOf}
@@ -25,7 +28,7 @@ use Rattle.seek.specs.Seek.{seekFrom, cursorIn, orderBehind, forwardOf, backwar
 use Rattle.fields.specs.Fields.{codeField, fieldOf}
 use Rattle.jump.specs.Jump.{hopOf, jumpFrom, jumpOf}
 use Rattle.acts.specs.Acts.{letterOf, signOf, numberedOf, characterOf, actOf}
-use Rattle.keys.specs.Keys.{cursorMoved, characterStored, keyOf}
+use Rattle.keys.specs.Keys.{cursorMoved, countMoved, characterStored, countTyped, keyOf}
 use Rattle.keys.specs.declared.KeyReply.{KeyReply}
 use Rattle.keys.specs.declared.KeyReply.the-variants.{Refused, Unheard, Heard}
 use Rattle.keys.specs.declared.Keyed.{Keyed}
@@ -149,13 +152,27 @@ abbrev pub typed : List ℕ → Keyed → Keyed
 typed [] k = k
 typed (n ∷ ns) k = typed ns (keyOf (k .device) n)
 
-abbrev pub results : Case → Keyed
-results c = typed (c .keys) (record { device = freshWith K4 (c .before); answer = Unheard })
+-- a fresh device with these words
+abbrev pub unit : List ℕ → Device
+unit words = freshWith K4 words (cursorsIn (length words) words)
 
-abbrev pub expected : Case → Keyed
-expected c = record { device = freshWith K4 (c .after); answer = c .answer }
+-- what is left of a case: the words, whether the number is their full count, and the last answer
+pub record Left : Type 0 where
+  pub words : List ℕ
+  pub counted : Bool
+  pub answer : KeyReply
+
+abbrev pub left : Keyed → Left
+left k =
+    record { words = k .device .words; counted = eqb (k .device .cursors) (cursorsIn (length (k .device .words)) (k .device .words)); answer = k .answer }
+
+abbrev pub results : Case → Left
+results c = left (typed (c .keys) (record { device = unit (c .before); answer = Unheard }))
+
+abbrev pub expected : Case → Left
+expected c = record { words = c .after; counted = true; answer = c .answer }
 
 -- each case of the table holds
 pub all : map results cases ≡ map expected cases
-unfolding keyOf numberedOf letterOf signOf actOf characterOf cursorMoved characterStored cursorInserted cursorCleared cursorIn orderBehind forwardOf backwardOf seekFrom byteAt codeAt orderAt lineAt fieldOf codeField jumpOf jumpFrom hopOf advanceOf seenOf detects timed hitIn strokesOf codesStrokes codeStrokes hasCursor draws motionOf twoOf fourOf blankedPlace lookOf wordsGroup wordOf orderOf findIn table ones onesIn
+unfolding keyOf numberedOf letterOf signOf actOf characterOf cursorMoved countMoved characterStored countTyped cursorInserted countInserted cursorCleared countCleared cursorsIn recounted cursorIn orderBehind forwardOf backwardOf seekFrom byteAt codeAt orderAt lineAt fieldOf codeField jumpOf jumpFrom hopOf advanceOf seenOf detects timed hitIn strokesOf codesStrokes codeStrokes hasCursor draws motionOf twoOf fourOf blankedPlace lookOf wordsGroup wordOf orderOf findIn table ones onesIn
 all = refl

@@ -9,7 +9,7 @@ use orders::Size;
 use refusals::Refusal;
 use seek::Spot;
 ghost use mathlib.Core.Path.{_≡_};
-ghost use Rattle.keys.specs.Keys.{cursorMoved, characterStored, heard, doneBy, pressedBy, keyOf};
+ghost use Rattle.keys.specs.Keys.{cursorMoved, countMoved, characterStored, countTyped, heard, doneBy, pressedBy, soughtIn, keyOf};
 
 // What a key answers.
 pub enum KeyReply {
@@ -27,26 +27,38 @@ pub struct Keyed {
     pub answer: KeyReply,
 }
 
-// Moves the cursor from one location to another.
-fn move_cursor(words: &mut [u16; 8192], size: Size, at: usize, to: usize)
-    ensures { λ _. ⌜ now (words .exit) ≡ cursorMoved size at to (now (words .entry)) ⌝ }
+// Moves the cursor from one location to another, and answers the number of set cursor bits.
+fn move_cursor(words: &mut [u16; 8192], cursors: u16, size: Size, at: usize, to: usize) -> u16
+    ensures { λ r. ⌜ (r ≡ countMoved size at to (now (words .entry)) cursors) × (now (words .exit) ≡ cursorMoved size at to (now (words .entry))) ⌝ }
 {
-    buffer::remove_cursor(words, size, at);
-    buffer::insert_cursor(words, size, to);
+    let removed = buffer::remove_cursor(words, cursors, size, at);
+    buffer::insert_cursor(words, removed, size, to)
 }
 
-// Stores a character and moves the cursor on.
-fn store_character(words: &mut [u16; 8192], size: Size, at: usize, code: u8, to: usize)
-    ensures { λ _. ⌜ now (words .exit) ≡ characterStored size at code to (now (words .entry)) ⌝ }
+// Stores a character and moves the cursor on, and answers the number of set cursor bits.
+fn store_character(
+    words: &mut [u16; 8192],
+    cursors: u16,
+    size: Size,
+    at: usize,
+    code: u8,
+    to: usize,
+) -> u16
+    ensures { λ r. ⌜ (r ≡ countTyped size at code to (now (words .entry)) cursors) × (now (words .exit) ≡ characterStored size at code to (now (words .entry))) ⌝ }
 {
-    let a = orders::wrap(size, at);
-    words[a] = location::word_of(code, false, true);
-    buffer::insert_cursor(words, size, to);
+    let stored = buffer::store_at(
+        words,
+        cursors,
+        size,
+        at,
+        location::word_of(code, false, true),
+    );
+    buffer::insert_cursor(words, stored, size, to)
 }
 
 // The device, with whether a character was stored and where the cursor is.
 fn answer(device: Device, stored: bool, to: usize) -> Keyed
-    ensures { λ r. ⌜ r ≡ heard device (device .words) stored to ⌝ }
+    ensures { λ r. ⌜ r ≡ heard device (device .words) (device .cursors) stored to ⌝ }
 {
     Keyed {
         device: device,
@@ -60,14 +72,15 @@ fn done(mut device: Device, at: usize, act: Act) -> Keyed
 {
     let state = device.state;
     let size = state.size;
+    let cursors = device.cursors;
     match act {
         Act::Stay => answer(device, false, at),
         Act::Move(to) => {
-            move_cursor(&mut device.words, size, at, to);
+            device.cursors = move_cursor(&mut device.words, cursors, size, at, to);
             answer(device, false, to)
         }
         Act::Store(code, to) => {
-            store_character(&mut device.words, size, at, code, to);
+            device.cursors = store_character(&mut device.words, cursors, size, at, code, to);
             answer(device, true, to)
         }
     }
@@ -90,6 +103,19 @@ fn pressed(device: Device, press: Press, cursor: Spot) -> Keyed
     }
 }
 
+// The cursor, looked for where there is any.
+fn sought(device: Device) -> Spot
+    ensures { λ r. ⌜ r ≡ soughtIn device ⌝ }
+{
+    if device::any_cursor(device) {
+        let state = device.state;
+        let size = state.size;
+        seek::cursor_in(&device.words, size)
+    } else {
+        Spot::Nowhere
+    }
+}
+
 // A key of this number on the alphameric keyboard.
 pub fn key(device: Device, number: u16) -> Keyed
     ensures { λ r. ⌜ r ≡ keyOf device number ⌝ }
@@ -99,11 +125,6 @@ pub fn key(device: Device, number: u16) -> Keyed
             device: device,
             answer: KeyReply::Refused(refusal),
         },
-        Numbered::Of(press) => {
-            let state = device.state;
-            let size = state.size;
-            let cursor = seek::cursor_in(&device.words, size);
-            pressed(device, press, cursor)
-        }
+        Numbered::Of(press) => pressed(device, press, sought(device)),
     }
 }

@@ -10,7 +10,7 @@ use Rattle.orders.specs.Orders.{sizeOf}
 use Rattle.orders.specs.declared.Size.{Size}
 use Rattle.look.specs.Loaded.{Carries}
 use Rattle.buffer.specs.Buffer.{cursorAt, cursorRemoved, cursorCleared, cursorInserted}
-use Rattle.device.specs.Device.{freshWith, freshOf, dumpWords, loadOf}
+use Rattle.device.specs.Device.{freshLoaded, freshOf, dumpWords, loadOf}
 use Rattle.device.specs.declared.Device.{Device}
 use Rattle.device.specs.declared.Answer.the-variants as answer
 use Rattle.commands.specs.Commands.{commandOf}
@@ -38,7 +38,7 @@ DumpLoaded =
     (d : Device) (s : Size) (image : List ℕ)
     → Bytes image
     → length image ≤ sizeOf s
-    → loadOf d (sizeOf s) (dumpOf s image) ≡ record { device = freshWith s (dumpWords (dumpOf s image)); answer = answer.Done }
+    → loadOf d (sizeOf s) (dumpOf s image) ≡ record { device = freshLoaded s (dumpOf s image); answer = answer.Done }
 
 -- and the image is carried
 abbrev pub DumpImage : Type 0

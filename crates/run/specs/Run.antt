@@ -120,7 +120,7 @@ senseAfter end.NotRunning s = s
 -- the device that a run leaves: "Regeneration never stores"
 abbrev pub deviceAfter : Device → Progress → Device
 deviceAfter d p =
-    record { words = d .words; state = p .state; status = statusAfter (p .end) (d .status); sense = senseAfter (p .end) (d .sense) }
+    record { words = d .words; state = p .state; status = statusAfter (p .end) (d .status); sense = senseAfter (p .end) (d .sense); cursors = d .cursors }
 
 abbrev pub ranBy : Device → Progress → Ran
 ranBy d p = record { device = deviceAfter d p; answer = outcome.Done (p .steps) (p .end) (p .items) }

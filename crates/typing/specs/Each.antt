@@ -5,6 +5,7 @@ use mathlib.Core.Bool.{Bool, true, false, cond}
 use Rattle.orders.specs.declared.Mode.{Mode}
 use Rattle.refusals.specs.declared.Refusal.{Refusal}
 use Rattle.device.specs.declared.Device.{Device}
+use Rattle.device.specs.Device.{anyCursor}
 use Rattle.signs.specs.Signs.{lineAt}
 use Rattle.seek.specs.Seek.{cursorIn, forwardOf, backwardOf}
 use Rattle.seek.specs.declared.Spot.{Spot}
@@ -83,9 +84,13 @@ module _ (d : Device) (number : ℕ) where
     by-cursor k e Nowhere c = unheard
     by-cursor k e (At at) c = by-field at c k e (fieldOf (d .words) (d .state .size) at) refl
 
+    by-any : (k : Press) → numberedOf number ≡ numbered.Of k → (t : Bool) → P (pressedBy d k (cond t (cursorIn (d .words) (d .state .size)) Nowhere))
+    by-any k e true = by-cursor k e (cursorIn (d .words) (d .state .size)) refl
+    by-any k e false = unheard
+
     by-number : (q : Numbered) → numberedOf number ≡ q → P (keyBy d q)
     by-number (numbered.Refused r) e = refused r
-    by-number (numbered.Of k) e = by-cursor k e (cursorIn (d .words) (d .state .size)) refl
+    by-number (numbered.Of k) e = by-any k e (anyCursor d)
 
     pub each : P (keyOf d number)
     unfolding keyOf

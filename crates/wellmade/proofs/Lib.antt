@@ -1,5 +1,7 @@
 -- hand-written modules
 pub mod Words
+pub mod Counted
+pub mod Cursors
 pub mod Beams
 pub mod Looks
 pub mod Strokes

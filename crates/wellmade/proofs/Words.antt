@@ -16,6 +16,7 @@ use Rattle.orders.specs.declared.Size.the-variants.{K4, K8}
 use Rattle.buffer.specs.Buffer.{nextOf, writtenFrom, behind, goesOn, readFrom, otherOf, cursorSet, cursorAt, cursorRemoved, cursorCleared, cursorInserted}
 use Rattle.buffer.specs.declared.Read.{Read}
 use Rattle.device.specs.Device.{allProper, dumpWords}
+use Rattle.keys.specs.Keys.{cursorMoved, characterStored}
 use Rattle.roundtrips.specs.RoundTrips.{Bytes}
 use Rattle.roundtrips.proofs.Buffers.{either-way, stored-location, inside, at-most}
 use Rattle.roundtrips.proofs.Images.{fresh-at}
@@ -106,3 +107,14 @@ module _ (s : Size) where
     proper = λ k l. dump-proper dump (8192 - length dump) k p (omega (arith, at-most s));
     upper = λ k u l. fresh-at dump (8192 - length dump) k (omega arith) (omega (arith, at-most s));
   }
+
+  -- a move of the cursor, and a character stored
+  pub moved-made : (at to : ℕ) (words : List ℕ) → WordsMade s words → WordsMade s (cursorMoved s at to words)
+  unfolding cursorMoved
+  moved-made at to words m = inserted-made to (cursorRemoved s at words) (removed-made at words m)
+
+  pub typed-made : (at code to : ℕ) (words : List ℕ) → code < 256 → WordsMade s words → WordsMade s (characterStored s at code to words)
+  unfolding characterStored
+  typed-made at code to words h m =
+      let w = wordOf code false true in
+      inserted-made to (set words (wrapOf s at) w) (set-made s words (wrapOf s at) w m (inside s at) (proper-stored code false true h))

@@ -7,6 +7,7 @@ use Rattle.device.specs.declared.Device.{Device}
 use Rattle.device.specs.Device.{freshOf, loadOf, switchedOf}
 use Rattle.commands.specs.Commands.{commandOf}
 use Rattle.run.specs.Run.{runOf}
+use Rattle.keys.specs.Keys.{keyOf}
 use Rattle.roundtrips.specs.RoundTrips.{Bytes}
 use Rattle.wellmade.specs.WellMade.{WellMade}
 
@@ -34,3 +35,7 @@ CommandWell =
 -- a run, with any sights and any room for its list
 abbrev pub RunWell : Type 0
 RunWell = (d : Device) → WellMade d → (sights out : List ℕ) → WellMade (runOf d sights out .device)
+
+-- a key, of any number
+abbrev pub KeyWell : Type 0
+KeyWell = (d : Device) → WellMade d → (number : ℕ) → WellMade (keyOf d number .device)

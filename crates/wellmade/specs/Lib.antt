@@ -1,2 +1,4 @@
 pub mod WellMade
 pub mod Calls
+pub mod Made
+pub mod Cursors

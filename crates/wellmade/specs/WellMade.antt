@@ -1,4 +1,4 @@
--- A device that the calls could have made (01, "Locations and the device" and "Beam").
+-- A device that the calls could have made (01, "Locations and the device" and "Beam"; 02, C-15).
 use Prim.Native.Nat.{ℕ, _≤_, _<_}
 use mathlib.Core.Path.{_≡_}
 use mathlib.Core.Bool.{true}
@@ -8,6 +8,7 @@ use Rattle.location.specs.Location.{properOf, freshWord}
 use Rattle.orders.specs.Orders.{sizeOf}
 use Rattle.orders.specs.declared.Size.{Size}
 use Rattle.beam.specs.declared.Beam.{Beam}
+use Rattle.counts.specs.Counts.{cursorsIn}
 use Rattle.device.specs.declared.State.{State}
 use Rattle.device.specs.declared.Device.{Device}
 
@@ -27,6 +28,11 @@ pub record StateMade (s : State) : Type 0 where
   pub address : s .address < sizeOf (s .size)
   pub beam : BeamMade (s .beam)
 
+-- "the number of set cursor bits .. equal to the full count"
+abbrev pub Counted : Size → List ℕ → ℕ → Type 0
+Counted s words n = n ≡ cursorsIn (sizeOf s) words
+
 pub record WellMade (d : Device) : Type 0 where
   pub words : WordsMade (d .state .size) (d .words)
   pub state : StateMade (d .state)
+  pub counted : Counted (d .state .size) (d .words) (d .cursors)

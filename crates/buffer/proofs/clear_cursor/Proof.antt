@@ -1,4 +1,5 @@
-use Rattle.buffer.specs.Buffer.{cursorCleared}
+use mathlib.Core.Path.{sym, _∙_}
+use Rattle.buffer.specs.Buffer.{cursorCleared, countCleared}
 use borrow.Author.Needs.{needs}
 use Rattle.buffer.proofs.clear_cursor.Statement.{statement}
 use Rattle.buffer.proofs.clear_cursor.Tie as tie
@@ -15,19 +16,18 @@ cursor-of-requires c κs = search needs
 with-cursor-requires : tie.Need-with-cursor-requires
 with-cursor-requires c κs = search needs
 
-mul-words : tie.Need-mul-words
-mul-words c = search needs
-
-element-write-words : tie.Need-element-write-words
-element-write-words c = search needs
+store-requires : tie.Need-store-requires
+store-requires c κs = search needs
 
 returns : tie.Need-returns
-unfolding cursorCleared
-returns c = simp (← c .before .before .cursor-of .ensures, c .before .if1 .taken, c .with-cursor .ensures)
+unfolding cursorCleared countCleared
+returns c =
+    let test = sym (c .before .before .before .before .cursor-of .ensures) ∙ c .before .before .before .if1 .taken in
+    (simp (test, ← c .before .with-cursor .ensures) (c .store .ensures .0), simp (test, ← c .before .with-cursor .ensures) (c .store .ensures .1))
 
 returns-2 : tie.Need-returns-2
-unfolding cursorCleared
-returns-2 c = simp (← c .before .cursor-of .ensures, c .if1 .left)
+unfolding cursorCleared countCleared
+returns-2 c = (simp (← c .before .cursor-of .ensures, c .if1 .left), simp (← c .before .cursor-of .ensures, c .if1 .left))
 
 pub clear-cursor-spec : {M : Type 1} → statement M
 clear-cursor-spec =
@@ -37,7 +37,6 @@ clear-cursor-spec =
     element-copy-out-word
     cursor-of-requires
     with-cursor-requires
-    mul-words
-    element-write-words
+    store-requires
     returns
     returns-2)

@@ -1,4 +1,4 @@
-use Rattle.buffer.specs.Buffer.{cursorInserted}
+use Rattle.buffer.specs.Buffer.{cursorInserted, countInserted}
 use borrow.Author.Needs.{needs}
 use Rattle.buffer.proofs.insert_cursor.Statement.{statement}
 use Rattle.buffer.proofs.insert_cursor.Tie as tie
@@ -21,15 +21,12 @@ element-copy-out-word c = search needs
 with-cursor-requires : tie.Need-with-cursor-requires
 with-cursor-requires c κs = search needs
 
-mul-words : tie.Need-mul-words
-mul-words c = search needs
-
-element-write-words : tie.Need-element-write-words
-element-write-words c = search needs
+store-requires : tie.Need-store-requires
+store-requires c κs = search needs
 
 returns : tie.Need-returns
-unfolding cursorInserted
-returns c = simp (c .with-cursor .ensures, c .before .before .clear-cursor .ensures, c .before .before .before .other .ensures .0, c .before .before .before .before .before .wrap .ensures .0)
+unfolding cursorInserted countInserted
+returns c = simp (c .before .with-cursor .ensures, c .before .before .before .before .clear-cursor .ensures .0, c .before .before .before .before .clear-cursor .ensures .1, c .before .before .before .before .before .other .ensures .0, c .before .before .before .before .before .before .before .wrap .ensures .0) at (c .store .ensures)
 
 pub insert-cursor-spec : {M : Type 1} → statement M
 insert-cursor-spec =
@@ -41,6 +38,5 @@ insert-cursor-spec =
     mul-word
     element-copy-out-word
     with-cursor-requires
-    mul-words
-    element-write-words
+    store-requires
     returns)

@@ -14,14 +14,11 @@ element-copy-out-word c = search needs
 with-cursor-requires : tie.Need-with-cursor-requires
 with-cursor-requires c κs = search needs
 
-mul-words : tie.Need-mul-words
-mul-words c = search needs
-
-element-write-words : tie.Need-element-write-words
-element-write-words c = search needs
+store-requires : tie.Need-store-requires
+store-requires c κs = search needs
 
 returns : tie.Need-returns
-returns c = simp (c .with-cursor .ensures, c .before .before .wrap .ensures .0)
+returns c = simp (c .before .with-cursor .ensures, c .before .before .before .before .wrap .ensures .0) at (c .store .ensures)
 
 pub remove-cursor-spec : {M : Type 1} → statement M
 remove-cursor-spec =
@@ -31,6 +28,5 @@ remove-cursor-spec =
     mul-word
     element-copy-out-word
     with-cursor-requires
-    mul-words
-    element-write-words
+    store-requires
     returns)

@@ -5,23 +5,24 @@ use mathlib.Core.Path.{_≡_, sym, _∙_}
 use mathlib.Core.List.{List}
 use lib.ListN.{length, drop}
 use Rattle.orders.specs.declared.Size.{Size}
-use Rattle.buffer.specs.Buffer.{wordsWritten, addressWritten, writtenFrom, behind}
-use Rattle.buffer.proofs.Turns.{write-one, behind-one, write-all, behind-all}
+use Rattle.buffer.specs.Buffer.{wordsWritten, addressWritten, countWritten, writtenFrom, countFrom, behind}
+use Rattle.buffer.proofs.Turns.{write-one, behind-one, write-all, behind-all, count-one, count-all}
 use Rattle.buffer.proofs.write_in.Statement.{statement}
 use Rattle.buffer.proofs.write_in.Tie as tie
 
 -- What is left to write from index i on gives the whole write.
-record Writing (words₀ : List ℕ) (s : Size) (start : ℕ) (bytes words : List ℕ) (a i : ℕ) : Type 0 where
+record Writing (words₀ : List ℕ) (n : ℕ) (s : Size) (start : ℕ) (bytes words : List ℕ) (a count i : ℕ) : Type 0 where
   within : i ≤ length bytes
   low : a < 8192
   words-left : wordsWritten s start bytes words₀ ≡ writtenFrom s a (drop i bytes) words
+  count-left : countWritten s start bytes words₀ n ≡ countFrom s a (drop i bytes) words count
   address-left : addressWritten s start bytes ≡ behind s a (drop i bytes)
 
 abbrev Inv-loop : tie.InvT-loop
-Inv-loop words₀ size at bytes a₀ i₀ words a i = Writing words₀ size at bytes words a i
+Inv-loop words₀ cursors size at bytes a₀ count₀ i₀ words a count i = Writing words₀ cursors size at bytes words a count i
 
 abbrev μ-loop : tie.MeasureT-loop
-μ-loop words₀ size at bytes a₀ i₀ words a i = length bytes - i
+μ-loop words₀ cursors size at bytes a₀ count₀ i₀ words a count i = length bytes - i
 
 wrap-requires : tie.Need-wrap-requires Inv-loop μ-loop
 wrap-requires c κs = search needs
@@ -31,6 +32,7 @@ loop-holds c = record {
   within = omega arith;
   low = omega arith;
   words-left = rw (c .wrap .ensures .0);
+  count-left = rw (c .wrap .ensures .0);
   address-left = rw (c .wrap .ensures .0);
 }
 
@@ -40,11 +42,8 @@ shared-slice-read-word-of c = omega arith
 word-of-requires : tie.Need-word-of-requires Inv-loop μ-loop
 word-of-requires c κs = search needs
 
-mul-words : tie.Need-mul-words Inv-loop μ-loop
-mul-words c = omega arith
-
-element-write-words : tie.Need-element-write-words Inv-loop μ-loop
-element-write-words c = omega arith
+store-requires : tie.Need-store-requires Inv-loop μ-loop
+store-requires c κs = search needs
 
 add-wrap : tie.Need-add-wrap Inv-loop μ-loop
 add-wrap c = omega arith
@@ -60,12 +59,13 @@ loop-less c = omega arith
 
 loop-again : tie.Need-loop-again Inv-loop μ-loop
 loop-again c =
-    let at = c .before .before .before .before in
+    let at = c .before .before .before .before .before .before in
     let h : at .loop .i < length (at .before .before .before .args .bytes .now) = omega arith in
     record {
       within = omega arith;
       low = omega arith;
-      words-left = rw (c .wrap2 .ensures .0, c .before .word-of .ensures) (at .loop .inv .words-left ∙ write-one _ _ _ _ _ h);
+      words-left = rw (c .wrap2 .ensures .0, c .before .store .ensures .1, c .before .before .word-of .ensures) (at .loop .inv .words-left ∙ write-one _ _ _ _ _ h);
+      count-left = rw (c .wrap2 .ensures .0, c .before .store .ensures .0, c .before .store .ensures .1, c .before .before .word-of .ensures) (at .loop .inv .count-left ∙ count-one _ _ _ _ _ _ h);
       address-left = rw (c .wrap2 .ensures .0) (at .loop .inv .address-left ∙ behind-one _ _ _ _ (at .loop .words) h);
     }
 
@@ -73,7 +73,9 @@ returns : tie.Need-returns Inv-loop μ-loop
 returns c =
     let at = c .before in
     let h : length (at .before .before .before .args .bytes .now) ≤ at .loop .i = omega arith in
-    (sym (at .loop .inv .address-left ∙ behind-all _ _ _ _ (at .loop .words) h), sym (at .loop .inv .words-left ∙ write-all _ _ _ _ _ h))
+    let address = at .loop .inv .address-left ∙ behind-all _ _ _ _ (at .loop .words) h in
+    let count = at .loop .inv .count-left ∙ count-all _ _ _ _ _ _ h in
+    (rw (address, count), sym (at .loop .inv .words-left ∙ write-all _ _ _ _ _ h))
 
 pub write-in-spec : {M : Type 1} → statement M
 write-in-spec =
@@ -85,8 +87,7 @@ write-in-spec =
     loop-holds
     shared-slice-read-word-of
     word-of-requires
-    mul-words
-    element-write-words
+    store-requires
     add-wrap
     wrap-requires-2
     add-i

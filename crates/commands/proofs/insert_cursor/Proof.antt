@@ -9,7 +9,7 @@ answer-requires : tie.Need-answer-requires
 answer-requires c κs = search needs
 
 returns : tie.Need-returns
-returns c = simp (c .before .insert-cursor .ensures) at (c .answer .ensures)
+returns c = simp (c .before .insert-cursor .ensures .0, c .before .insert-cursor .ensures .1) at (c .answer .ensures)
 
 pub insert-cursor-spec : {M : Type 1} → statement M
 insert-cursor-spec = tie.close (tie.spec insert-cursor-requires answer-requires returns)

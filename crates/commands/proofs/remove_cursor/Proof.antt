@@ -9,7 +9,7 @@ answer-requires : tie.Need-answer-requires
 answer-requires c κs = search needs
 
 returns : tie.Need-returns
-returns c = simp (c .before .remove-cursor .ensures) at (c .answer .ensures)
+returns c = simp (c .before .remove-cursor .ensures .0, c .before .remove-cursor .ensures .1) at (c .answer .ensures)
 
 pub remove-cursor-spec : {M : Type 1} → statement M
 remove-cursor-spec = tie.close (tie.spec remove-cursor-requires answer-requires returns)

@@ -12,6 +12,9 @@ same-length c = search needs
 returns : tie.Need-returns
 returns c = simp (eq-eqb _ _ (c .before .before .before .before .if1 .taken)) (c .before .before .read-buffer .ensures)
 
+any-cursor-requires : tie.Need-any-cursor-requires
+any-cursor-requires c κs = search needs
+
 read-buffer-requires-2 : tie.Need-read-buffer-requires-2
 read-buffer-requires-2 c κs = search needs
 
@@ -19,7 +22,7 @@ same-length-2 : tie.Need-same-length-2
 same-length-2 c = search needs
 
 returns-2 : tie.Need-returns-2
-returns-2 c = simp (ne-eqb _ _ (c .before .before .before .before .before .if1 .left), eq-eqb _ _ (c .before .before .before .before .if2 .taken)) (c .before .before .read-buffer2 .ensures)
+returns-2 c = simp (ne-eqb _ _ (c .before .before .before .before .before .before .if1 .left), eq-eqb _ _ (c .before .before .before .before .before .if2 .taken)) (simp (c .before .before .before .before .any-cursor .ensures) at (c .before .before .read-buffer2 .ensures))
 
 insert-cursor-requires : tie.Need-insert-cursor-requires
 insert-cursor-requires c κs = search needs
@@ -49,6 +52,7 @@ stopped-spec =
     read-buffer-requires
     same-length
     returns
+    any-cursor-requires
     read-buffer-requires-2
     same-length-2
     returns-2

@@ -30,10 +30,10 @@ returns : tie.Need-returns
 returns c = simp (c .before .enum-told .given .1) (c .answer .ensures)
 
 returns-2 : tie.Need-returns-2
-returns-2 c = simp (c .before .before .before .before .act .given .1) (simp (c .before .move-cursor .ensures) at (c .answer2 .ensures))
+returns-2 c = simp (c .before .before .before .before .act .given .1) (simp (c .before .move-cursor .ensures .0, c .before .move-cursor .ensures .1) at (c .answer2 .ensures))
 
 returns-3 : tie.Need-returns-3
-returns-3 c = simp (c .before .before .before .before .act2 .given .1) (simp (c .before .store-character .ensures) at (c .answer3 .ensures))
+returns-3 c = simp (c .before .before .before .before .act2 .given .1) (simp (c .before .store-character .ensures .0, c .before .store-character .ensures .1) at (c .answer3 .ensures))
 
 pub done-spec : {M : Type 1} → statement M
 done-spec =

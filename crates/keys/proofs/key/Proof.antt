@@ -12,8 +12,8 @@ enum-known-refusal c = search needs
 enum-known-press : tie.Need-enum-known-press
 enum-known-press c = search needs
 
-cursor-in-requires : tie.Need-cursor-in-requires
-cursor-in-requires c κs = search needs
+sought-requires : tie.Need-sought-requires
+sought-requires c κs = search needs
 
 pressed-requires : tie.Need-pressed-requires
 pressed-requires c κs = search needs
@@ -24,7 +24,7 @@ returns c = simp (← c .before .before .before .key-numbered .ensures, c .befor
 
 returns-2 : tie.Need-returns-2
 unfolding keyOf
-returns-2 c = simp (← c .before .before .before .before .before .before .before .before .key-numbered .ensures, c .before .before .before .before .before .before .press .given .1) (simp (c .before .cursor-in .ensures) at (c .pressed .ensures))
+returns-2 c = simp (← c .before .before .before .before .before .key-numbered .ensures, c .before .before .before .press .given .1) (simp (c .before .sought .ensures) at (c .pressed .ensures))
 
 pub key-spec : {M : Type 1} → statement M
 key-spec =
@@ -33,7 +33,7 @@ key-spec =
     key-numbered-requires
     enum-known-refusal
     enum-known-press
-    cursor-in-requires
+    sought-requires
     pressed-requires
     returns
     returns-2)

@@ -1,4 +1,4 @@
-use Rattle.keys.specs.Keys.{cursorMoved}
+use Rattle.keys.specs.Keys.{cursorMoved, countMoved}
 use borrow.Author.Needs.{needs}
 use Rattle.keys.proofs.move_cursor.Statement.{statement}
 use Rattle.keys.proofs.move_cursor.Tie as tie
@@ -10,8 +10,8 @@ insert-cursor-requires : tie.Need-insert-cursor-requires
 insert-cursor-requires c κs = search needs
 
 returns : tie.Need-returns
-unfolding cursorMoved
-returns c = simp (c .before .before .remove-cursor .ensures) at (c .insert-cursor .ensures)
+unfolding cursorMoved countMoved
+returns c = simp (c .before .before .remove-cursor .ensures .0, c .before .before .remove-cursor .ensures .1) at (c .insert-cursor .ensures)
 
 pub move-cursor-spec : {M : Type 1} → statement M
 move-cursor-spec = tie.close (tie.spec remove-cursor-requires insert-cursor-requires returns)
