@@ -1,5 +1,5 @@
 -- The law of one store, which serves every writer, and what it means that the number is nought.
-use Prim.Native.Nat.{ℕ, zero, suc, _+_, _<_, _≤_}
+use Prim.Native.Nat.{ℕ, zero, suc, _+_, _%_, _<_, _≤_}
 use native.Mathlib.Omega.{arith}
 use native.Mathlib.Decide.{ℕ-discrete}
 use mathlib.Core.Path.{_≡_, refl, ap}
@@ -49,6 +49,11 @@ pub count-after-one-store : (n k w : ℕ) (words : List ℕ) → n ≤ 8192 → 
 unfolding recounted
 count-after-one-store n k w words m h l =
     omega (arith, one-store n k w words h l, count-most n (set words k w), bit-most (getD words k 0), bit-most w)
+
+-- a number that is false stays wrong by as much as it was
+pub wrong-by-as-much : (n k w m : ℕ) (words : List ℕ) → k < n → k < length words → (recounted m (getD words k 0) w + cursorsIn n words) % 0x10000 ≡ (m + cursorsIn n (set words k w)) % 0x10000
+unfolding recounted
+wrong-by-as-much n k w m words h l = omega (arith, one-store n k w words h l, bit-most (getD words k 0), bit-most w)
 
 -- where the number is nought no location has a cursor
 pub none-set : (n : ℕ) (words : List ℕ) → cursorsIn n words ≡ 0 → (k : ℕ) → k < n → cursorOf (getD words k 0) ≡ false
