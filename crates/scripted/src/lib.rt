@@ -1,0 +1,64 @@
+// A whole script in memory, answered by one unit.
+//
+// The contracts cite `specs/Scripted.antt`.
+use device::Device;
+use orders::Size;
+use session::Told;
+ghost use mathlib.Core.Path.{_≡_};
+ghost use Prim.Native.Nat.{_+_, min};
+ghost use lib.ListN.{length, drop};
+ghost use Rattle.bytes.specs.Bytes.{indexOf};
+ghost use Rattle.text.specs.Text.{putAt, endOf};
+ghost use Rattle.session.specs.Session.{saidOf, Speaks};
+ghost use Rattle.scripted.specs.Scripted.{firstLine, playOf};
+
+// What stands from a place on.
+fn behind(script: &[u8], from: usize) -> &[u8]
+    ensures { λ r. ⌜ now r ≡ drop from (now (script .entry)) ⌝ }
+{
+    if script.len() <= from {
+        return &script[0..0];
+    }
+    &script[from..]
+}
+
+// The first line.
+fn first_line(rest: &[u8]) -> &[u8]
+    ensures { λ r. ⌜ now r ≡ firstLine (now (rest .entry)) ⌝ }
+{
+    let end = parse::index_of(b'\n', rest);
+    &rest[0..end]
+}
+
+// How many bytes the first line has with its newline.
+fn with_newline(rest: &[u8]) -> usize
+    ensures { λ r. ⌜ r ≡ min (indexOf 10 (now (rest .entry)) + 1) (length (now (rest .entry))) ⌝ }
+{
+    let end = parse::index_of(b'\n', rest);
+    if end < rest.len() { end + 1 } else { end }
+}
+
+// Answers the first line.
+fn answer_first(device: Device, rest: &[u8], out: &mut [u8], at: usize) -> Told
+    ensures { λ r. ⌜ Speaks (saidOf device (firstLine (now (rest .entry)))) (now (out .entry)) at (now (out .exit)) r ⌝ }
+{
+    session::answer(device, first_line(rest), out, at)
+}
+
+// Plays a script on a fresh unit of 4,096: the answers of its lines stand one behind the other at the front of the buffer.
+pub fn play(script: &[u8], out: &mut [u8]) -> usize
+    ensures { λ r. ⌜ r ≡ endOf (now (out .entry)) 0 (playOf (now (script .entry))) ⌝ }
+    ensures { λ _. ⌜ now (out .exit) ≡ putAt (now (out .entry)) 0 (playOf (now (script .entry))) ⌝ }
+{
+    let mut device = device::fresh(Size::K4);
+    let mut from = 0;
+    let mut end = 0;
+    while from < script.len() {
+        let rest = behind(script, from);
+        let told = answer_first(device, rest, out, end);
+        device = told.device;
+        end = told.end;
+        from += with_newline(rest);
+    }
+    end
+}
