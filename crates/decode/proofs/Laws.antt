@@ -1,10 +1,10 @@
 -- Numbers read one by one, and that a text has the same where it has ended.
-use Prim.Native.Nat.{ℕ, suc, _+_, _≤_, _<_}
-use mathlib.Core.Path.{_≡_, refl, sym, ap, _∙_}
-use mathlib.Core.List.{List, [], _∷_, _++_}
+use Prim.Native.Nat.{ℕ, _+_, _≤_, _<_}
+use mathlib.Core.Path.{_≡_, refl, sym, _∙_}
+use mathlib.Core.List.{List}
 use native.Mathlib.Omega.{arith}
 use native.Mathlib.Numerals.{add-one}
-use lib.ListN.{length, getD, take, set, List·getD-eq-default}
+use lib.ListN.{length, take, set, List·getD-eq-default}
 use lib.Seq.{take-suc-set}
 use Rattle.phrases.specs.Phrases.{eachOf}
 use Rattle.script.specs.Script.{digitAt, byteAt, wordAt}

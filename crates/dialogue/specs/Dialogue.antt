@@ -32,7 +32,7 @@ endOfInput (Whole count window) = false
 endOfInput (Long window) = false
 endOfInput End = true
 
--- an answer put where 262,144 bytes are free, which is more than the longest has
+-- an answer put where 262,144 bytes are free
 pub record Taken (s : Said) (buffer after : List ℕ) (d : Device) (output : Output) : Type 0 where
   pub at : ℕ
   pub free : at ≤ length buffer - 262144

@@ -76,7 +76,7 @@ fn is_end(line: Line) -> bool
     }
 }
 
-// Answers a line where there is room for the longest answer.
+// Answers a line where 262,144 bytes are free.
 fn take_turn(device: Device, input: &[u8], line: Line, lines: &mut [u8], output: Output) -> Turn
     ensures { λ r. ⌜ Taken (saidAt device (now (input .entry)) line) (now (lines .entry)) (now (lines .exit)) (r .device) (r .output) ⌝ }
     ensures { λ r. ⌜ (r .window ≡ windowBehind line) × (r .over ≡ endOfInput line) ⌝ }

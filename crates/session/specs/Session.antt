@@ -1,7 +1,7 @@
 -- The console's language: what each request does to the unit and what is printed for it.
 use Prim.Native.Nat.{ℕ, _*_, _/_, _≤_}
 use mathlib.Core.Path.{_≡_}
-use mathlib.Core.Bool.{Bool, true, false, cond}
+use mathlib.Core.Bool.{true, false, cond}
 use mathlib.Core.List.{List, [], _++_}
 use lib.ListN.{length, replicate}
 use lib.Dec.{leb}

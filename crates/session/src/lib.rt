@@ -12,7 +12,6 @@ use refusals::Refusal;
 use run::Outcome;
 use run::Ran;
 use script::Request;
-ghost use mathlib.Core.Path.{_≡_};
 ghost use mathlib.Core.List.{[]};
 ghost use Prim.Native.Nat.{_*_, _≤_};
 ghost use lib.ListN.{length, replicate};

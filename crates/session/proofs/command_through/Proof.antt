@@ -1,10 +1,10 @@
-use mathlib.Core.Path.{sym, ap, _∙_}
+use mathlib.Core.Path.{ap, _∙_}
 use Prim.Native.Nat.{ℕ}
 use mathlib.Core.List.{List}
 use denote.Ref.{now}
 use Rattle.commands.specs.Commands.{commandOf}
 use Rattle.session.specs.Session.{commandSaid}
-use Rattle.session.proofs.Laws.{speaks-as, spoken}
+use Rattle.session.proofs.Laws.{speaks-as}
 use borrow.Author.Needs.{needs}
 use Rattle.session.proofs.command_through.Statement.{statement}
 use Rattle.session.proofs.command_through.Tie as tie

@@ -1,9 +1,8 @@
 use mathlib.Core.Path.{sym, ap, _∙_}
-use Prim.Native.Nat.{ℕ}
 use Rattle.device.specs.declared.Device.{Device}
-use Rattle.replies.specs.Replies.{okLine, refusedLine}
-use Rattle.session.specs.Session.{said, freshSaid, loadBy, replySaid, ranBy, keyBy}
-use Rattle.session.proofs.Laws.{speaks-as, spoken}
+use Rattle.replies.specs.Replies.{okLine}
+use Rattle.session.specs.Session.{said, freshSaid}
+use Rattle.session.proofs.Laws.{speaks-as}
 use borrow.Author.Needs.{needs}
 use Rattle.session.proofs.fresh_by.Statement.{statement}
 use Rattle.session.proofs.fresh_by.Tie as tie

@@ -1,4 +1,4 @@
-use mathlib.Core.Path.{sym, ap, _∙_}
+use mathlib.Core.Path.{sym, ap}
 use Rattle.session.specs.Session.{keyBy}
 use Rattle.session.proofs.Laws.{speaks-as, spoken}
 use borrow.Author.Needs.{needs}

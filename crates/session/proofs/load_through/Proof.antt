@@ -1,7 +1,7 @@
-use mathlib.Core.Path.{sym, ap, _∙_}
+use mathlib.Core.Path.{ap, _∙_}
 use Rattle.device.specs.Device.{loadOf}
 use Rattle.session.specs.Session.{loadSaid}
-use Rattle.session.proofs.Laws.{speaks-as, spoken}
+use Rattle.session.proofs.Laws.{speaks-as}
 use borrow.Author.Needs.{needs}
 use Rattle.session.proofs.load_through.Statement.{statement}
 use Rattle.session.proofs.load_through.Tie as tie

@@ -1,9 +1,6 @@
-use mathlib.Core.Path.{sym, ap, _∙_}
-use Prim.Native.Nat.{ℕ}
-use Rattle.device.specs.declared.Device.{Device}
-use Rattle.replies.specs.Replies.{okLine, refusedLine}
-use Rattle.session.specs.Session.{said, freshSaid, loadBy, replySaid, ranBy, keyBy}
-use Rattle.session.proofs.Laws.{speaks-as, spoken}
+use mathlib.Core.Path.{sym, ap}
+use Rattle.session.specs.Session.{loadBy}
+use Rattle.session.proofs.Laws.{speaks-as}
 use borrow.Author.Needs.{needs}
 use Rattle.session.proofs.loaded_by.Statement.{statement}
 use Rattle.session.proofs.loaded_by.Tie as tie

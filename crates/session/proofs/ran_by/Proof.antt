@@ -1,4 +1,4 @@
-use mathlib.Core.Path.{sym, ap, _∙_}
+use mathlib.Core.Path.{sym, ap}
 use denote.Ref.{now}
 use Rattle.text.proofs.Laws.{behind}
 use Rattle.run.specs.declared.Outcome.{Outcome}

@@ -1,8 +1,7 @@
-use mathlib.Core.Path.{sym, ap, _∙_}
+use mathlib.Core.Path.{ap}
 use Prim.Native.Nat.{ℕ}
-use Rattle.device.specs.declared.Device.{Device}
-use Rattle.replies.specs.Replies.{okLine, refusedLine}
-use Rattle.session.specs.Session.{said, freshSaid, loadBy, replySaid, ranBy, keyBy}
+use Rattle.replies.specs.Replies.{refusedLine}
+use Rattle.session.specs.Session.{said}
 use Rattle.session.proofs.Laws.{speaks-as, spoken}
 use borrow.Author.Needs.{needs}
 use Rattle.session.proofs.refused.Statement.{statement}

@@ -1,8 +1,5 @@
-use mathlib.Core.Path.{sym, ap, _∙_}
-use Prim.Native.Nat.{ℕ}
-use Rattle.device.specs.declared.Device.{Device}
-use Rattle.replies.specs.Replies.{okLine, refusedLine}
-use Rattle.session.specs.Session.{said, freshSaid, loadBy, replySaid, ranBy, keyBy}
+use mathlib.Core.Path.{sym, ap}
+use Rattle.session.specs.Session.{replySaid}
 use Rattle.session.proofs.Laws.{speaks-as, spoken}
 use denote.Ref.{now}
 use Rattle.commands.specs.declared.Reply.{Reply}
