@@ -112,7 +112,10 @@ fn scripts(proved: &Proved, random: &mut Random) -> Result<(), String> {
     for number in 1..=SCRIPTS {
         let script = random::script(random);
         let wanted = console::answers(&script);
-        let length = proved.script(&script, &mut out);
+        let Some(length) = proved.script(&script, &mut out) else {
+            println!("console scripts: not compared, the library plays none");
+            return Ok(());
+        };
         if out[..length] != wanted[..] {
             let text = String::from_utf8_lossy(&script);
             return Err(format!("script {number}: {}\n{text}", vectors::first_difference(&out[..length], &wanted)));

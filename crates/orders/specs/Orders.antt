@@ -1,5 +1,5 @@
 -- The sizes of a buffer, the modes of a step and the orders, one row each (01, "What the unit is here"; 000 p.24, Table 4).
-use Prim.Native.Nat.{ℕ, suc, _%_}
+use Prim.Native.Nat.{ℕ, _%_}
 use mathlib.Core.Bool.{cond}
 use mathlib.Core.List.{List, [], _∷_}
 use lib.Dec.{eqb}
@@ -66,11 +66,6 @@ table =
 unfoldable pub findIn : List Row → ℕ → Found
 findIn [] code = Missing
 findIn (r ∷ rs) code = cond (eqb (r .code) code) (Order r) (findIn rs code)
-
--- which row of a list has the code, counted from 0: the list's length where none has
-unfoldable pub indexIn : List Row → ℕ → ℕ
-indexIn [] code = 0
-indexIn (r ∷ rs) code = cond (eqb (r .code) code) 0 (suc (indexIn rs code))
 
 -- the row of the table that has the code
 unfoldable pub orderOf : ℕ → Found

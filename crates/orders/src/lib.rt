@@ -2,7 +2,6 @@
 // enter, the sizes of a buffer and the wrap of an address.
 //
 // The contracts cite `specs/Orders.antt`; `specs/Rows.antt` proves the table's rule.
-mod by_code;
 
 ghost use mathlib.Core.Path.{_≡_};
 ghost use Prim.Native.Nat.{_<_, _≤_};
@@ -206,10 +205,28 @@ pub fn mode_number(mode: Mode) -> usize
 pub fn order_of(code: u8) -> Found
     ensures { λ r. ⌜ r ≡ orderOf code ⌝ }
 {
-    let at = by_code::row_of(code);
-    if at < 20 {
-        Found::Order(TABLE[at])
-    } else {
-        Found::Missing
+    let rows = TABLE;
+    match code {
+        0x00 => Found::Order(rows[0]),
+        0x02 => Found::Order(rows[1]),
+        0x04 => Found::Order(rows[2]),
+        0x05 => Found::Order(rows[3]),
+        0x40 => Found::Order(rows[4]),
+        0x41 => Found::Order(rows[5]),
+        0x44 => Found::Order(rows[6]),
+        0x45 => Found::Order(rows[7]),
+        0x50 => Found::Order(rows[8]),
+        0x51 => Found::Order(rows[9]),
+        0x52 => Found::Order(rows[10]),
+        0x80 => Found::Order(rows[11]),
+        0x81 => Found::Order(rows[12]),
+        0x82 => Found::Order(rows[13]),
+        0x84 => Found::Order(rows[14]),
+        0x85 => Found::Order(rows[15]),
+        0x86 => Found::Order(rows[16]),
+        0xC0 => Found::Order(rows[17]),
+        0xFD => Found::Order(rows[18]),
+        0xFF => Found::Order(rows[19]),
+        _ => Found::Missing,
     }
 }
