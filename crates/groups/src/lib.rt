@@ -3,9 +3,8 @@
 // The contracts cite `specs/Groups.antt`.
 use orders::Size;
 ghost use mathlib.Core.Path.{_≡_};
-ghost use mathlib.Core.Bool.{_&&_};
 ghost use Prim.Native.Nat.{_<_};
-ghost use Rattle.groups.specs.Groups.{aheadOf, groupBy, pairOf, wordsGroup, imageGroup};
+ghost use Rattle.groups.specs.Groups.{aheadOf, pairOf, wordsGroup, imageGroup};
 
 // Two locations that are read together.
 pub enum Group {
@@ -25,53 +24,22 @@ pub fn ahead(size: Size, at: usize, n: u8) -> usize
     orders::wrap(size, here + n as usize)
 }
 
-// The group of two bytes that stand at a and b.
-fn group_by(
-    written: bool,
-    good_a: bool,
-    good_b: bool,
-    a: usize,
-    b: usize,
-    byte_a: u8,
-    byte_b: u8,
-) -> Group
-    ensures { λ r. ⌜ r ≡ groupBy written «good_a» «good_b» a b «byte_a» «byte_b» ⌝ }
-{
-    if written {
-        if good_a {
-            if good_b {
-                Group::Bytes(byte_a, byte_b)
-            } else {
-                Group::Bad(b)
-            }
-        } else {
-            Group::Bad(a)
-        }
-    } else {
-        Group::Unwritten
-    }
-}
-
-// Whether both hold.
-fn both(a: bool, b: bool) -> bool
-    ensures { λ r. ⌜ r ≡ a && b ⌝ }
-{
-    if a { b } else { false }
-}
-
 // The group of the words w and v that stand at a and b.
 fn pair_of(w: u16, v: u16, a: usize, b: usize) -> Group
     ensures { λ r. ⌜ r ≡ pairOf w v a b ⌝ }
 {
-    group_by(
-        both(location::written_of(w), location::written_of(v)),
-        location::good(w),
-        location::good(v),
-        a,
-        b,
-        location::data_of(w),
-        location::data_of(v),
-    )
+    if location::written_of(w) {
+        if location::written_of(v) {
+            if location::good(w) {
+                if location::good(v) {
+                    return Group::Bytes(location::data_of(w), location::data_of(v));
+                }
+                return Group::Bad(b);
+            }
+            return Group::Bad(a);
+        }
+    }
+    Group::Unwritten
 }
 
 // The group at an address of a buffer.

@@ -45,6 +45,16 @@ abbrev pub foundBy : Size → ℕ → Found → Begun
 foundBy s a Missing = begun.Done (look.Fault fault.NoRow)
 foundBy s a (Order r) = orderBy s a (r .length) (r .follows)
 
+-- "Point and vector read A+2 and A+3 too": their data are coordinates
+abbrev pub placing : Mode → Bool
+placing Idle = false
+placing Point = true
+placing Vector = true
+placing IncrementalPoint = false
+placing IncrementalVector = false
+placing Basic = false
+placing Large = false
+
 -- "No order: idle, incremental and character modes take the word and go to A+2. Point and vector read A+2 and A+3 too and go to A+4."
 abbrev pub dataBy : Size → ℕ → ℕ → ℕ → Mode → Begun
 dataBy s a b₁ b₂ Idle = begun.Done (look.Two b₁ b₂ (aheadOf s a 2))

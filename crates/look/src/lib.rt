@@ -10,7 +10,7 @@ use orders::Size;
 ghost use mathlib.Core.Path.{_≡_};
 ghost use Prim.Native.Nat.{_+_, _*_, _<_};
 ghost use Rattle.groups.specs.Groups.{wordsGroup, imageGroup};
-ghost use Rattle.look.specs.Look.{faultNumber, orderBy, foundBy, dataBy, firstBy, targetBy, targetIn, coordinateIn, lookOf};
+ghost use Rattle.look.specs.Look.{faultNumber, orderBy, foundBy, placing, dataBy, firstBy, targetBy, targetIn, coordinateIn, lookOf};
 
 // The faults of a step.
 pub enum Fault {
@@ -104,18 +104,29 @@ fn found_by(size: Size, at: usize, found: Found) -> Begun
     }
 }
 
+// Whether the data of a mode are coordinates.
+fn is_placing(mode: Mode) -> bool
+    ensures { λ r. ⌜ r ≡ placing mode ⌝ }
+{
+    match mode {
+        Mode::Idle => false,
+        Mode::Point => true,
+        Mode::Vector => true,
+        Mode::IncrementalPoint => false,
+        Mode::IncrementalVector => false,
+        Mode::Basic => false,
+        Mode::Large => false,
+    }
+}
+
 // What data make of a step in a mode.
 fn data_by(size: Size, at: usize, a: u8, b: u8, mode: Mode) -> Begun
     ensures { λ r. ⌜ r ≡ dataBy size at a b mode ⌝ }
 {
-    match mode {
-        Mode::Idle => Begun::Done(Look::Two(a, b, groups::ahead(size, at, 2))),
-        Mode::Point => Begun::Coordinate(a, b, groups::ahead(size, at, 4)),
-        Mode::Vector => Begun::Coordinate(a, b, groups::ahead(size, at, 4)),
-        Mode::IncrementalPoint => Begun::Done(Look::Two(a, b, groups::ahead(size, at, 2))),
-        Mode::IncrementalVector => Begun::Done(Look::Two(a, b, groups::ahead(size, at, 2))),
-        Mode::Basic => Begun::Done(Look::Two(a, b, groups::ahead(size, at, 2))),
-        Mode::Large => Begun::Done(Look::Two(a, b, groups::ahead(size, at, 2))),
+    if is_placing(mode) {
+        Begun::Coordinate(a, b, groups::ahead(size, at, 4))
+    } else {
+        Begun::Done(Look::Two(a, b, groups::ahead(size, at, 2)))
     }
 }
 

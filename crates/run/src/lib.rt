@@ -4,8 +4,8 @@
 use device::Device;
 use device::Sense;
 use device::State;
-use items::Drawn;
 use items::Listing;
+use motion::Motion;
 use refusals::Refusal;
 use step::End;
 use step::Stepped;
@@ -13,7 +13,7 @@ ghost use mathlib.Core.Path.{_≡_};
 ghost use mathlib.Core.Bool.{cond, _||_};
 ghost use Prim.Native.Nat.{_+_, _≤_, _/_};
 ghost use lib.ListN.{length};
-ghost use Rattle.run.specs.Run.{isDone, goesOn, endsWith, turnBy, outBy, turnOf, outOf, progress, runFrom, outFrom, allSights, statusAfter, senseJoined, senseAfter, deviceAfter, ranBy, runOf, listOf};
+ghost use Rattle.run.specs.Run.{isDone, isStill, turnBy, turnOf, outOf, progress, runFrom, outFrom, allSights, statusAfter, senseJoined, senseAfter, deviceAfter, ranBy, runOf, listOf};
 
 // One turn of a run: a step done and the state and items after it, the last one done, or one that is not done.
 pub enum Turn {
@@ -57,42 +57,50 @@ fn is_done(end: End) -> bool
     }
 }
 
-// A step that goes on, if what it draws fits.
-fn goes_on(state: State, next: State, listing: Listing) -> Turn
-    ensures { λ r. ⌜ r ≡ goesOn state next listing ⌝ }
+// Whether the beam stands still.
+fn is_still(motion: Motion) -> bool
+    ensures { λ r. ⌜ r ≡ isStill motion ⌝ }
 {
-    match listing {
-        Listing::Full => Turn::NotDone(state, End::NoRoom),
-        Listing::Next(items) => Turn::On(next, items),
+    match motion {
+        Motion::Still => true,
+        Motion::To(_, _) => false,
+        Motion::Codes(_, _, _) => false,
     }
 }
 
-// A step that ends the run, if what it draws fits.
-fn ends_with(state: State, next: State, end: End, listing: Listing) -> Turn
-    ensures { λ r. ⌜ r ≡ endsWith state next end listing ⌝ }
+// The turn of a step whose items fit: so many are listed then.
+fn listed_turn(stepped: Stepped, items: usize) -> Turn
+    ensures { λ r. ⌜ ((s : State) → r ≡ turnBy s stepped (Listing.Next items)) ⌝ }
 {
-    match listing {
-        Listing::Full => Turn::NotDone(state, End::NoRoom),
-        Listing::Next(items) => Turn::Last(next, items, end),
+    match stepped {
+        Stepped::Goes(next) => Turn::On(next, items),
+        Stepped::Stops(next, end) => {
+            if is_done(end) {
+                Turn::Last(next, items, end)
+            } else {
+                Turn::NotDone(next, end)
+            }
+        }
     }
 }
 
 // One turn: a step, and what it draws put into the list.
 fn take_turn(words: &[u16; 8192], state: State, sight: u8, items: usize, out: &mut [u16]) -> Turn
+    requires { ⌜ items ≤ length (now out) / 8 ⌝ }
     ensures { λ r. ⌜ (r ≡ turnOf (now (words .entry)) state sight items (now (out .entry))) × (now (out .exit) ≡ outOf (now (words .entry)) state sight items (now (out .entry))) ⌝ }
 {
     let look = step::look_here(words, state);
-    match step::advance(state, look, sight) {
-        Stepped::Goes(next) => {
-            let drawn = step::draw(words, state, look, sight);
-            goes_on(state, next, items::list(out, items, drawn))
-        }
-        Stepped::Stops(next, end) => {
-            if is_done(end) {
-                let drawn = step::draw(words, state, look, sight);
-                ends_with(state, next, end, items::list(out, items, drawn))
-            } else {
-                Turn::NotDone(next, end)
+    let mode = state.mode;
+    let beam = state.beam;
+    let motion = motion::motion_of(look, mode, beam);
+    if is_still(motion) {
+        listed_turn(step::advance_still(state, look), items)
+    } else {
+        let drawn = step::draw_motion(words, state, motion, sight);
+        match items::list(out, items, drawn) {
+            Listing::Full => Turn::NotDone(state, End::NoRoom),
+            Listing::Next(listed) => {
+                listed_turn(step::advance_moved(state, look, motion, sight), listed)
             }
         }
     }

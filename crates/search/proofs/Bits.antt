@@ -134,9 +134,9 @@ saved-byte : (s : List ℕ) (i v k : ℕ) → (k < i) ⊎ (i + 3 ≤ k) → getD
 unfolding saved
 saved-byte s i v k h =
     let s₁ : List ℕ = set s i (v % 256) in
-    let s₂ : List ℕ = set s₁ (i + 1) (v / 256 % 256) in
-    getD-set-other s₂ (i + 2) k (v / 65536 % 256) 0 (λ e. ⊎-elim (λ a. omega arith) (λ a. omega arith) h)
-    ∙ getD-set-other s₁ (i + 1) k (v / 256 % 256) 0 (λ e. ⊎-elim (λ a. omega arith) (λ a. omega arith) h)
+    let s₂ : List ℕ = set s₁ (i + 1) (v / 65536 % 256) in
+    getD-set-other s₂ (i + 2) k (v / 256 % 256) 0 (λ e. ⊎-elim (λ a. omega arith) (λ a. omega arith) h)
+    ∙ getD-set-other s₁ (i + 1) k (v / 65536 % 256) 0 (λ e. ⊎-elim (λ a. omega arith) (λ a. omega arith) h)
     ∙ getD-set-other s i k (v % 256) 0 (λ e. ⊎-elim (λ a. omega arith) (λ a. omega arith) h)
 
 pub bitOf-saved : (s : List ℕ) (i v p : ℕ) → p / 8 < i → bitOf (saved s i v) p ≡ bitOf s p
@@ -171,14 +171,14 @@ pub word-saved : (s : List ℕ) (i v : ℕ) → i + 3 ≤ length s → v < 16777
 unfolding word saved
 word-saved s i v h u =
     let s₁ : List ℕ = set s i (v % 256) in
-    let s₂ : List ℕ = set s₁ (i + 1) (v / 256 % 256) in
-    let s₃ : List ℕ = set s₂ (i + 2) (v / 65536 % 256) in
+    let s₂ : List ℕ = set s₁ (i + 1) (v / 65536 % 256) in
+    let s₃ : List ℕ = set s₂ (i + 2) (v / 256 % 256) in
     let a : getD s₃ i 0 ≡ v % 256 =
-    getD-set-other s₂ (i + 2) i (v / 65536 % 256) 0 (λ e. omega arith) ∙ getD-set-other s₁ (i + 1) i (v / 256 % 256) 0 (λ e. omega arith) ∙ getD-set-same s i (v % 256) 0 (omega arith) in
-    let b : getD s₃ (i + 1) 0 ≡ v / 256 % 256 =
-    getD-set-other s₂ (i + 2) (i + 1) (v / 65536 % 256) 0 (λ e. omega arith) ∙ getD-set-same s₁ (i + 1) (v / 256 % 256) 0 (simp length-set (omega arith)) in
-    let c : getD s₃ (i + 2) 0 ≡ v / 65536 % 256 =
-    getD-set-same s₂ (i + 2) (v / 65536 % 256) 0 (simp length-set (omega arith)) in
+    getD-set-other s₂ (i + 2) i (v / 256 % 256) 0 (λ e. omega arith) ∙ getD-set-other s₁ (i + 1) i (v / 65536 % 256) 0 (λ e. omega arith) ∙ getD-set-same s i (v % 256) 0 (omega arith) in
+    let b : getD s₃ (i + 1) 0 ≡ v / 65536 % 256 =
+    getD-set-other s₂ (i + 2) (i + 1) (v / 256 % 256) 0 (λ e. omega arith) ∙ getD-set-same s₁ (i + 1) (v / 65536 % 256) 0 (simp length-set (omega arith)) in
+    let c : getD s₃ (i + 2) 0 ≡ v / 256 % 256 =
+    getD-set-same s₂ (i + 2) (v / 256 % 256) 0 (simp length-set (omega arith)) in
     omega arith
 
 pub tally-lt : (s : List ℕ) (p n : ℕ) → p < 8 * length s → bitOf s p ≡ 0 → p < n → tally s n < n

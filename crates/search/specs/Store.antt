@@ -21,12 +21,13 @@ unfoldable pub tally : List ℕ → ℕ → ℕ
 tally s zero = zero
 tally s (suc n) = tally s n + bitOf s n
 
--- the three bytes at i, lowest first
+-- the three bytes at i: the low one, the high one, the middle one. None lies beside the next of its number, so that no two are read at once:
+-- a processor hands on a byte that was just stored, and waits for two that were stored one by one.
 unfoldable pub word : List ℕ → ℕ → ℕ
-word s i = getD s i 0 + 256 * getD s (i + 1) 0 + 65536 * getD s (i + 2) 0
+word s i = getD s i 0 + 256 * getD s (i + 2) 0 + 65536 * getD s (i + 1) 0
 
 unfoldable pub saved : List ℕ → ℕ → ℕ → List ℕ
-saved s i v = set (set (set s i (v % 256)) (i + 1) (v / 256 % 256)) (i + 2) (v / 65536 % 256)
+saved s i v = set (set (set s i (v % 256)) (i + 1) (v / 65536 % 256)) (i + 2) (v / 256 % 256)
 
 -- where entry j of a stack lies: from the low end up, or from the high end down
 abbrev pub slot : Bool → ℕ → ℕ → ℕ → ℕ

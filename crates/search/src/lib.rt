@@ -74,8 +74,8 @@ fn load(store: &[u8], i: usize) -> usize
     ensures { λ r. ⌜ r ≡ word (now (store .entry)) i ⌝ }
 {
     let a = wide(store[i]);
-    let b = wide(store[i + 1]);
-    let c = wide(store[i + 2]);
+    let b = wide(store[i + 2]);
+    let c = wide(store[i + 1]);
     a + 256 * b + 65536 * c
 }
 
@@ -85,8 +85,8 @@ fn save(store: &mut [u8], i: usize, v: usize)
     ensures { λ _. ⌜ now (store .exit) ≡ saved (now (store .entry)) i v ⌝ }
 {
     store[i] = (v % 256) as u8;
-    store[i + 1] = (v / 256 % 256) as u8;
-    store[i + 2] = (v / 65536 % 256) as u8;
+    store[i + 1] = (v / 65536 % 256) as u8;
+    store[i + 2] = (v / 256 % 256) as u8;
 }
 
 // Where the stacks begin.

@@ -68,38 +68,70 @@ stopped s a m = record { size = s .size; address = a; mode = m; running = false;
 abbrev pub struck : State → ℕ → Beam → State
 struck s a b = record { size = s .size; address = a; mode = s .mode; running = false; beam = b; pen = detected (s .pen) }
 
--- data: a detect, or on to the next address with the beam where the motion leaves it
+-- data: a detect, or on to the next address with the beam at b
+abbrev pub dataTo : State → Beam → ℕ → Hit → Stepped
+dataTo s b next hit.Missed = stepped.Goes (beamed s next b)
+dataTo s b next (hit.At a e) = stepped.Stops (struck s a e) end.Detect
+
+-- with the beam where the motion leaves it
 abbrev pub dataBy : State → Motion → ℕ → Hit → Stepped
-dataBy s m next hit.Missed = stepped.Goes (beamed s next (beamAfter m (s .beam)))
-dataBy s m next (hit.At a b) = stepped.Stops (struck s a b) end.Detect
+dataBy s m next h = dataTo s (beamAfter m (s .beam)) next h
 
 -- a Transfer On No Detect, by whether it goes
 abbrev pub eitherBy : State → ℕ → ℕ → Bool → Stepped
 eitherBy s target next goes =
     cond goes (stepped.Goes (penned s target (transferred (s .pen)))) (stepped.Goes (at s next Idle))
 
--- what a look makes of the state; h is the item that the sight falls on. "Any fault stops regeneration at A with no status (house)";
--- "bad parity stops with Data Check at that byte"; "End Order Sequence stops in idle, .. the address after it"
-abbrev pub advanceBy : State → Hit → Look → Stepped
-advanceBy s h (look.Fault f) = stepped.Stops (stopped s (s .address) (s .mode)) (end.Fault f)
-advanceBy s h (look.Check a) = stepped.Stops (stopped s a (s .mode)) end.DataCheck
-advanceBy s h (look.Enter m next) = stepped.Goes (at s next m)
-advanceBy s h (look.Pass next) = stepped.Goes (at s next Idle)
-advanceBy s h (look.Timer next) = stepped.Goes (penned s next (timed (s .pen)))
-advanceBy s h (look.SetPen p next) = stepped.Goes (penned s next (ordered (s .pen) p))
-advanceBy s h (look.End next) = stepped.Stops (stopped s next Idle) end.EndOrder
-advanceBy s h (look.Jump target) = stepped.Goes (at s target Idle)
-advanceBy s h (look.Either target next) = eitherBy s target next (transfers (s .pen))
-advanceBy s h (look.Two a b next) = dataBy s (motionAt (look.Two a b next) s) next h
-advanceBy s h (look.Four a b c d next) = dataBy s (motionAt (look.Four a b c d next) s) next h
+-- what a look makes of the state; h is the item that the sight falls on, b where data leave the beam. "Any fault stops regeneration at A
+-- with no status (house)"; "bad parity stops with Data Check at that byte"; "End Order Sequence stops in idle, .. the address after it"
+abbrev pub advanceTo : State → Beam → Hit → Look → Stepped
+advanceTo s b h (look.Fault f) = stepped.Stops (stopped s (s .address) (s .mode)) (end.Fault f)
+advanceTo s b h (look.Check a) = stepped.Stops (stopped s a (s .mode)) end.DataCheck
+advanceTo s b h (look.Enter m next) = stepped.Goes (at s next m)
+advanceTo s b h (look.Pass next) = stepped.Goes (at s next Idle)
+advanceTo s b h (look.Timer next) = stepped.Goes (penned s next (timed (s .pen)))
+advanceTo s b h (look.SetPen p next) = stepped.Goes (penned s next (ordered (s .pen) p))
+advanceTo s b h (look.End next) = stepped.Stops (stopped s next Idle) end.EndOrder
+advanceTo s b h (look.Jump target) = stepped.Goes (at s target Idle)
+advanceTo s b h (look.Either target next) = eitherBy s target next (transfers (s .pen))
+advanceTo s b h (look.Two x y next) = dataTo s b next h
+advanceTo s b h (look.Four x₁ x₂ y₁ y₂ next) = dataTo s b next h
 
--- the item that what is seen falls on
+abbrev pub advanceBy : State → Hit → Look → Stepped
+advanceBy s h l = advanceTo s (beamAfter (motionAt l s) (s .beam)) h l
+
+-- the item that what is seen falls on, by the motion
+abbrev pub hitBy : State → Motion → ℕ → Hit
+hitBy s m seen = hitIn seen (strokesOf m (s .beam) false false (s .size) (s .address))
+
 abbrev pub hitAt : State → Look → ℕ → Hit
-hitAt s l seen = hitIn seen (strokesOf (motionAt l s) (s .beam) false false (s .size) (s .address))
+hitAt s l seen = hitBy s (motionAt l s) seen
 
 -- advancing: the state after a step with a sight
 unfoldable pub advanceOf : State → Look → ℕ → Stepped
 advanceOf s l sight = advanceBy s (hitAt s l (seenOf (s .pen) sight)) l
+
+-- advancing by a step that leaves the beam where it stands, so that no sight falls on it
+unfoldable pub stillOf : State → Look → Stepped
+stillOf s l = advanceTo s (s .beam) hit.Missed l
+
+-- the address behind data
+abbrev pub behindData : Look → ℕ
+behindData (look.Fault f) = 0
+behindData (look.Check a) = 0
+behindData (look.Enter m next) = 0
+behindData (look.Pass next) = 0
+behindData (look.Timer next) = 0
+behindData (look.SetPen p next) = 0
+behindData (look.End next) = 0
+behindData (look.Jump target) = 0
+behindData (look.Either target next) = 0
+behindData (look.Two x y next) = next
+behindData (look.Four x₁ x₂ y₁ y₂ next) = next
+
+-- advancing over data, by their motion
+unfoldable pub movedOf : State → Look → Motion → ℕ → Stepped
+movedOf s l m sight = dataBy s m (behindData l) (hitBy s m (seenOf (s .pen) sight))
 
 -- the cursor bits of A and A+1
 abbrev pub cursorHere : List ℕ → State → Bool
@@ -108,8 +140,10 @@ cursorHere words s = cursorOf (getD words (wrapOf (s .size) (s .address)) 0)
 abbrev pub cursorNext : List ℕ → State → Bool
 cursorNext words s = cursorOf (getD words (aheadOf (s .size) (s .address) 1) 0)
 
--- listing: what a step with a sight draws, up to the item that a detect falls on
+-- listing: what a step with a sight draws, up to the item that a detect falls on, by its motion
+unfoldable pub itemsMoved : List ℕ → State → Motion → ℕ → List Item
+itemsMoved words s m sight =
+    upto (seenOf (s .pen) sight) (strokesOf m (s .beam) (cursorHere words s) (cursorNext words s) (s .size) (s .address))
+
 unfoldable pub itemsDrawn : List ℕ → State → Look → ℕ → List Item
-itemsDrawn words s l sight =
-    upto (seenOf (s .pen) sight)
-    (strokesOf (motionAt l s) (s .beam) (cursorHere words s) (cursorNext words s) (s .size) (s .address))
+itemsDrawn words s l sight = itemsMoved words s (motionAt l s) sight

@@ -13,7 +13,7 @@ use pen::Pen;
 ghost use mathlib.Core.Path.{_≡_};
 ghost use Prim.Native.Nat.{_<_};
 ghost use Rattle.items.specs.Items.{itemsOf};
-ghost use Rattle.step.specs.Step.{endNumber, lookAt, seenOf, at, penned, beamed, stopped, struck, dataBy, eitherBy, advanceBy, hitAt, advanceOf, itemsDrawn, cursorHere, cursorNext};
+ghost use Rattle.step.specs.Step.{endNumber, lookAt, seenOf, at, penned, beamed, stopped, struck, dataTo, eitherBy, advanceTo, hitBy, behindData, advanceOf, stillOf, movedOf, cursorHere, cursorNext, itemsMoved, itemsDrawn};
 
 // Why a run ends.
 pub enum End {
@@ -124,13 +124,12 @@ fn struck_at(mut state: State, address: usize, beam: Beam) -> State
     state
 }
 
-// What data make of the state.
-fn data_by(state: State, motion: Motion, next: usize, hit: Hit) -> Stepped
-    ensures { λ r. ⌜ r ≡ dataBy state motion next hit ⌝ }
+// What data make of the state: a hit, or the beam where they leave it.
+fn data_by(state: State, to: Beam, next: usize, hit: Hit) -> Stepped
+    ensures { λ r. ⌜ r ≡ dataTo state to next hit ⌝ }
 {
-    let beam = state.beam;
     match hit {
-        Hit::Missed => Stepped::Goes(with_beam(state, next, motion::beam_after(motion, beam))),
+        Hit::Missed => Stepped::Goes(with_beam(state, next, to)),
         Hit::At(address, end) => Stepped::Stops(struck_at(state, address, end), End::Detect),
     }
 }
@@ -147,12 +146,11 @@ fn either_by(state: State, target: usize, next: usize, goes: bool) -> Stepped
     }
 }
 
-// What a look makes of the state.
-fn advance_by(state: State, hit: Hit, look: Look) -> Stepped
-    ensures { λ r. ⌜ r ≡ advanceBy state hit look ⌝ }
+// What a look makes of the state: a hit, or the beam where its data leave it.
+fn advance_by(state: State, to: Beam, hit: Hit, look: Look) -> Stepped
+    ensures { λ r. ⌜ r ≡ advanceTo state to hit look ⌝ }
 {
     let mode = state.mode;
-    let beam = state.beam;
     let pen = state.pen;
     match look {
         Look::Fault(fault) => {
@@ -166,27 +164,37 @@ fn advance_by(state: State, hit: Hit, look: Look) -> Stepped
         Look::End(next) => Stepped::Stops(stopped_at(state, next, Mode::Idle), End::EndOrder),
         Look::Jump(target) => Stepped::Goes(at_place(state, target, Mode::Idle)),
         Look::Either(target, next) => either_by(state, target, next, pen::is_transferring(pen)),
-        Look::Two(_, _, next) => data_by(state, motion::motion_of(look, mode, beam), next, hit),
-        Look::Four(_, _, _, _, next) => {
-            data_by(state, motion::motion_of(look, mode, beam), next, hit)
-        }
+        Look::Two(_, _, next) => data_by(state, to, next, hit),
+        Look::Four(_, _, _, _, next) => data_by(state, to, next, hit),
     }
 }
 
-// The item that what is seen falls on.
-fn hit_at(state: State, look: Look, seen: u8) -> Hit
-    ensures { λ r. ⌜ r ≡ hitAt state look seen ⌝ }
+// The item that what is seen falls on, by the motion.
+fn hit_at(state: State, motion: Motion, seen: u8) -> Hit
+    ensures { λ r. ⌜ r ≡ hitBy state motion seen ⌝ }
 {
-    let mode = state.mode;
     let beam = state.beam;
     let size = state.size;
-    drawing::hit_of(
-        motion::motion_of(look, mode, beam),
-        beam,
-        size,
-        state.address,
-        seen,
-    )
+    drawing::hit_of(motion, beam, size, state.address, seen)
+}
+
+// The address behind the data of a look.
+fn behind(look: Look) -> usize
+    ensures { λ r. ⌜ r ≡ behindData look ⌝ }
+{
+    match look {
+        Look::Fault(_) => 0,
+        Look::Check(_) => 0,
+        Look::Enter(_, _) => 0,
+        Look::Pass(_) => 0,
+        Look::Timer(_) => 0,
+        Look::SetPen(_, _) => 0,
+        Look::End(_) => 0,
+        Look::Jump(_) => 0,
+        Look::Either(_, _) => 0,
+        Look::Two(_, _, next) => next,
+        Look::Four(_, _, _, _, next) => next,
+    }
 }
 
 // The look at the place of a state.
@@ -202,8 +210,30 @@ pub fn look_here(words: &[u16; 8192], state: State) -> Look
 pub fn advance(state: State, look: Look, sight: u8) -> Stepped
     ensures { λ r. ⌜ r ≡ advanceOf state look sight ⌝ }
 {
+    let mode = state.mode;
+    let beam = state.beam;
     let pen = state.pen;
-    advance_by(state, hit_at(state, look, seen_of(pen, sight)), look)
+    let motion = motion::motion_of(look, mode, beam);
+    let hit = hit_at(state, motion, seen_of(pen, sight));
+    advance_by(state, motion::beam_after(motion, beam), hit, look)
+}
+
+// Advances the state by a step that leaves the beam where it stands.
+pub fn advance_still(state: State, look: Look) -> Stepped
+    ensures { λ r. ⌜ r ≡ stillOf state look ⌝ }
+{
+    let beam = state.beam;
+    advance_by(state, beam, Hit::Missed, look)
+}
+
+// Advances the state over the data of a look, by their motion and what the pen is shown.
+pub fn advance_moved(state: State, look: Look, motion: Motion, sight: u8) -> Stepped
+    ensures { λ r. ⌜ r ≡ movedOf state look motion sight ⌝ }
+{
+    let beam = state.beam;
+    let pen = state.pen;
+    let hit = hit_at(state, motion, seen_of(pen, sight));
+    data_by(state, motion::beam_after(motion, beam), behind(look), hit)
 }
 
 // The cursor bit at a state's address.
@@ -225,16 +255,15 @@ fn cursor_next(words: &[u16; 8192], state: State) -> bool
     location::cursor_of(words[a])
 }
 
-// Lists what a step draws: its look, and what the pen is shown.
-pub fn draw(words: &[u16; 8192], state: State, look: Look, sight: u8) -> Drawn
-    ensures { λ r. ⌜ itemsOf r ≡ itemsDrawn (now (words .entry)) state look sight ⌝ }
+// Lists what a step draws: its motion, and what the pen is shown.
+pub fn draw_motion(words: &[u16; 8192], state: State, motion: Motion, sight: u8) -> Drawn
+    ensures { λ r. ⌜ itemsOf r ≡ itemsMoved (now (words .entry)) state motion sight ⌝ }
 {
-    let mode = state.mode;
     let beam = state.beam;
     let size = state.size;
     let pen = state.pen;
     drawing::drawn_of(
-        motion::motion_of(look, mode, beam),
+        motion,
         beam,
         cursor_here(words, state),
         cursor_next(words, state),
@@ -242,4 +271,13 @@ pub fn draw(words: &[u16; 8192], state: State, look: Look, sight: u8) -> Drawn
         state.address,
         seen_of(pen, sight),
     )
+}
+
+// Lists what a step draws: its look, and what the pen is shown.
+pub fn draw(words: &[u16; 8192], state: State, look: Look, sight: u8) -> Drawn
+    ensures { λ r. ⌜ itemsOf r ≡ itemsDrawn (now (words .entry)) state look sight ⌝ }
+{
+    let mode = state.mode;
+    let beam = state.beam;
+    draw_motion(words, state, motion::motion_of(look, mode, beam), sight)
 }
