@@ -68,17 +68,11 @@ either-by-requires c κs = search needs
 enum-known-look-10 : tie.Need-enum-known-look-10
 enum-known-look-10 c = search needs
 
-motion-of-requires : tie.Need-motion-of-requires
-motion-of-requires c κs = search needs
-
 data-by-requires : tie.Need-data-by-requires
 data-by-requires c κs = search needs
 
 enum-known-look-11 : tie.Need-enum-known-look-11
 enum-known-look-11 c = search needs
-
-motion-of-requires-2 : tie.Need-motion-of-requires-2
-motion-of-requires-2 c κs = search needs
 
 data-by-requires-2 : tie.Need-data-by-requires-2
 data-by-requires-2 c κs = search needs
@@ -111,10 +105,10 @@ returns-9 : tie.Need-returns-9
 returns-9 c = simp (c .before .before .before .look9 .given .1) (simp (c .before .is-transferring .ensures) at (c .either-by .ensures))
 
 returns-10 : tie.Need-returns-10
-returns-10 c = simp (c .before .before .before .look10 .given .1) (simp (c .before .motion-of .ensures, c .before .before .before .look10 .given .1) at (c .data-by .ensures))
+returns-10 c = simp (c .before .before .look10 .given .1) (c .data-by .ensures)
 
 returns-11 : tie.Need-returns-11
-returns-11 c = simp (c .before .before .before .look11 .given .1) (simp (c .before .motion-of2 .ensures, c .before .before .before .look11 .given .1) at (c .data-by2 .ensures))
+returns-11 c = simp (c .before .before .look11 .given .1) (c .data-by2 .ensures)
 
 pub advance-by-spec : {M : Type 1} → statement M
 advance-by-spec =
@@ -142,10 +136,8 @@ advance-by-spec =
     is-transferring-requires
     either-by-requires
     enum-known-look-10
-    motion-of-requires
     data-by-requires
     enum-known-look-11
-    motion-of-requires-2
     data-by-requires-2
     returns
     returns-2

@@ -6,29 +6,12 @@ use Rattle.step.proofs.draw.Tie as tie
 motion-of-requires : tie.Need-motion-of-requires
 motion-of-requires c κs = search needs
 
-cursor-here-requires : tie.Need-cursor-here-requires
-cursor-here-requires c κs = search needs
-
-cursor-next-requires : tie.Need-cursor-next-requires
-cursor-next-requires c κs = search needs
-
-seen-of-requires : tie.Need-seen-of-requires
-seen-of-requires c κs = search needs
-
-drawn-of-requires : tie.Need-drawn-of-requires
-drawn-of-requires c κs = search needs
+draw-motion-requires : tie.Need-draw-motion-requires
+draw-motion-requires c κs = search needs
 
 returns : tie.Need-returns
 unfolding itemsDrawn
-returns c = simp (c .before .seen-of .ensures, c .before .before .cursor-next .ensures, c .before .before .before .cursor-here .ensures, c .before .before .before .before .motion-of .ensures) at (c .drawn-of .ensures .0)
+returns c = simp (c .before .motion-of .ensures) at (c .draw-motion .ensures)
 
 pub draw-spec : {M : Type 1} → statement M
-draw-spec =
-    tie.close
-    (tie.spec
-    motion-of-requires
-    cursor-here-requires
-    cursor-next-requires
-    seen-of-requires
-    drawn-of-requires
-    returns)
+draw-spec = tie.close (tie.spec motion-of-requires draw-motion-requires returns)
