@@ -8,6 +8,8 @@ use Rattle.refusals.specs.declared.Refusal.the-variants.{UnknownSight}
 use Rattle.items.specs.Items.{listing, listed}
 use Rattle.items.specs.declared.Listing.{Listing}
 use Rattle.items.specs.declared.Listing.the-variants.{Full, Next}
+use Rattle.motion.specs.declared.Motion.{Motion}
+use Rattle.motion.specs.declared.Motion.the-variants as motion
 use Rattle.device.specs.declared.State.{State}
 use Rattle.device.specs.declared.Sense.{Sense}
 use Rattle.device.specs.declared.Device.{Device}
@@ -32,6 +34,12 @@ isDone end.Detect = true
 isDone end.DataCheck = false
 isDone end.NoRoom = false
 isDone end.NotRunning = false
+
+-- a motion that leaves the beam where it stands: nothing is drawn
+abbrev pub isStill : Motion → Bool
+isStill motion.Still = true
+isStill (motion.To t b) = false
+isStill (motion.Codes z a b) = false
 
 -- a step that is done if what it draws fits: "then 9, judged on the items really drawn. After 9 the unit still runs at that place."
 abbrev pub goesOn : State → State → Listing → Turn

@@ -13,6 +13,8 @@ ghost use mathlib.Core.Path.{_≡_};
 ghost use mathlib.Core.Bool.{cond, _||_};
 ghost use Prim.Native.Nat.{_+_, _≤_, _/_};
 ghost use lib.ListN.{length};
+ghost use Rattle.device.specs.declared.State.{State};
+ghost use Rattle.items.specs.declared.Listing.the-variants.{Next};
 ghost use Rattle.run.specs.Run.{isDone, isStill, turnBy, turnOf, outOf, progress, runFrom, outFrom, allSights, statusAfter, senseJoined, senseAfter, deviceAfter, ranBy, runOf, listOf};
 
 // One turn of a run: a step done and the state and items after it, the last one done, or one that is not done.
@@ -70,7 +72,7 @@ fn is_still(motion: Motion) -> bool
 
 // The turn of a step whose items fit: so many are listed then.
 fn listed_turn(stepped: Stepped, items: usize) -> Turn
-    ensures { λ r. ⌜ ((s : State) → r ≡ turnBy s stepped (Listing.Next items)) ⌝ }
+    ensures { λ r. ⌜ ((s : State) → r ≡ turnBy s stepped (Next items)) ⌝ }
 {
     match stepped {
         Stepped::Goes(next) => Turn::On(next, items),

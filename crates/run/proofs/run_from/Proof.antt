@@ -1,12 +1,12 @@
 use borrow.Author.Needs.{needs}
-use Prim.Native.Nat.{ℕ, _≤_, _<_, _-_}
+use Prim.Native.Nat.{ℕ, _≤_, _<_, _-_, _/_}
 use native.Mathlib.Omega.{arith}
 use mathlib.Core.Path.{_≡_, refl, sym, _∙_}
 use mathlib.Core.List.{List}
 use lib.ListN.{length, drop}
 use Rattle.device.specs.declared.State.{State}
 use Rattle.run.specs.Run.{runFrom, outFrom}
-use Rattle.run.proofs.Turns.{run-one, list-one, run-all, list-all}
+use Rattle.run.proofs.Turns.{room-kept, run-one, list-one, run-all, list-all}
 use Rattle.run.proofs.run_from.Statement.{statement}
 use Rattle.run.proofs.run_from.Tie as tie
 
@@ -14,6 +14,7 @@ use Rattle.run.proofs.run_from.Tie as tie
 record Running (words sights out₀ : List ℕ) (s₀ : State) (out : List ℕ) (s : State) (i items : ℕ) : Type 0 where
   within : i ≤ length sights
   long : length out ≡ length out₀
+  roomy : items ≤ length out / 8
   run-left : runFrom words sights s₀ 0 0 out₀ ≡ runFrom words (drop i sights) s i items out
   list-left : outFrom words sights s₀ 0 out₀ ≡ outFrom words (drop i sights) s items out
 
@@ -24,13 +25,13 @@ abbrev μ-loop : tie.MeasureT-loop
 μ-loop words sights out₀ state₀ i₀ items₀ out state i items = length sights - i
 
 loop-holds : tie.Need-loop-holds Inv-loop μ-loop
-loop-holds c = record { within = omega arith; long = refl; run-left = refl; list-left = refl }
+loop-holds c = record { within = omega arith; long = refl; roomy = omega arith; run-left = refl; list-left = refl }
 
 shared-slice-read-take-turn : tie.Need-shared-slice-read-take-turn Inv-loop μ-loop
 shared-slice-read-take-turn c = omega arith
 
 take-turn-requires : tie.Need-take-turn-requires Inv-loop μ-loop
-take-turn-requires c κs = search needs
+take-turn-requires c κs = c .before .before .before .loop .inv .roomy
 
 enum-known-last : tie.Need-enum-known-last Inv-loop μ-loop
 enum-known-last c = search needs
@@ -82,9 +83,11 @@ loop-again c =
     let k = c .before .before .before .before .before .take-turn .ensures in
     let h : at .loop .i < length (at .before .before .before .args .sights .now) = omega arith in
     let e = sym (c .before .next .given .1) ∙ k .0 in
+    let same = c .before .before .before .before .before .take-turn .kept .1 .1 .1 .1 .0 in
     record {
       within = omega arith;
-      long = c .before .before .before .before .before .take-turn .kept .1 .1 .1 .1 .0 ∙ at .loop .inv .long;
+      long = same ∙ at .loop .inv .long;
+      roomy = omega (arith, same, room-kept _ (at .loop .out) _ _ _ _ _ (sym e));
       run-left = at .loop .inv .run-left ∙ run-one _ _ _ _ _ _ _ h _ _ e (k .1);
       list-left = at .loop .inv .list-left ∙ list-one _ _ _ _ (at .loop .i) _ _ h _ _ e (k .1);
     }

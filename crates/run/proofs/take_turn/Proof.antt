@@ -1,4 +1,5 @@
-use Rattle.run.specs.Run.{turnOf, outOf}
+use mathlib.Core.Path.{sym, _∙_}
+use Rattle.run.proofs.Turns.{still-turn, moved-turn, moved-list, moved-full}
 use borrow.Author.Needs.{needs}
 use Rattle.run.proofs.take_turn.Statement.{statement}
 use Rattle.run.proofs.take_turn.Tie as tie
@@ -6,83 +7,95 @@ use Rattle.run.proofs.take_turn.Tie as tie
 look-here-requires : tie.Need-look-here-requires
 look-here-requires c κs = search needs
 
-advance-requires : tie.Need-advance-requires
-advance-requires c κs = search needs
+motion-of-requires : tie.Need-motion-of-requires
+motion-of-requires c κs = search needs
 
-enum-known-next : tie.Need-enum-known-next
-enum-known-next c = search needs
+is-still-requires : tie.Need-is-still-requires
+is-still-requires c κs = search needs
 
-draw-requires : tie.Need-draw-requires
-draw-requires c κs = search needs
+advance-still-requires : tie.Need-advance-still-requires
+advance-still-requires c κs = search needs
+
+listed-turn-requires : tie.Need-listed-turn-requires
+listed-turn-requires c κs = search needs
+
+draw-motion-requires : tie.Need-draw-motion-requires
+draw-motion-requires c κs = search needs
 
 list-requires : tie.Need-list-requires
 list-requires c κs = search needs
 
-goes-on-requires : tie.Need-goes-on-requires
-goes-on-requires c κs = search needs
+enum-told : tie.Need-enum-told
+enum-told c = search needs
 
-enum-known-next-2 : tie.Need-enum-known-next-2
-enum-known-next-2 c = search needs
+enum-known-listed : tie.Need-enum-known-listed
+enum-known-listed c = search needs
 
-is-done-requires : tie.Need-is-done-requires
-is-done-requires c κs = search needs
+advance-moved-requires : tie.Need-advance-moved-requires
+advance-moved-requires c κs = search needs
 
-draw-requires-2 : tie.Need-draw-requires-2
-draw-requires-2 c κs = search needs
+listed-turn-requires-2 : tie.Need-listed-turn-requires-2
+listed-turn-requires-2 c κs = search needs
 
-list-requires-2 : tie.Need-list-requires-2
-list-requires-2 c κs = search needs
-
-ends-with-requires : tie.Need-ends-with-requires
-ends-with-requires c κs = search needs
+returns : tie.Need-returns
+returns c =
+    let st = c .before .before .before .before .before .before .before .before in
+    let l = c .before .before .before .before .before .before .look-here .ensures in
+    let m = c .before .before .before .before .motion-of in
+    let k = still-turn (st .args .words .now) (st .args .out .now) (st .args .state) (st .args .sight) (st .args .items) (m .result) (simp l at (m .ensures)) (sym (c .before .before .before .is-still .ensures) ∙ c .before .before .if1 .taken) (st .pre) in
+    ((simp (c .before .advance-still .ensures, l) at (c .listed-turn .ensures (st .args .state))) ∙ sym (k .0), sym (k .1))
 
 same-length : tie.Need-same-length
 same-length c = search needs
 
-returns : tie.Need-returns
-unfolding turnOf outOf
-returns c =
-    let a = c .before .before .before .before .before .before .before .before .before .advance .ensures in
-    let l = c .before .before .before .before .before .before .before .before .before .before .look-here .ensures in
-    let d = c .before .before .before .before .before .draw .ensures in
-    (simp (← l, ← a, c .before .before .before .before .before .before .before .next .given .1, ← d) (simp (c .before .before .before .list .ensures .0) at (c .goes-on .ensures)), simp (← l, ← a, c .before .before .before .before .before .before .before .next .given .1, ← d) (c .before .before .before .list .ensures .1))
+returns-2 : tie.Need-returns-2
+returns-2 c =
+    let st = c .before .before .before .before .before .before .before .before .before .before .before .before .before in
+    let l = c .before .before .before .before .before .before .before .before .before .before .before .look-here .ensures in
+    let m = c .before .before .before .before .before .before .before .before .before .motion-of in
+    let e = simp l at (m .ensures) in
+    let n = sym (c .before .before .before .before .before .before .before .before .is-still .ensures) ∙ c .before .before .before .before .before .before .before .if1 .left in
+    let t = moved-turn (st .args .words .now) (st .args .out .now) (st .args .state) (st .args .sight) (st .args .items) (m .result) e n in
+    let o = moved-list (st .args .words .now) (st .args .out .now) (st .args .state) (st .args .sight) (st .args .items) (m .result) e n in
+    let d = c .before .before .before .before .before .before .draw-motion .ensures in
+    let r = c .before .before .before .before .list .ensures in
+    let f = sym (simp d at (r .0)) ∙ c .enum-told .given .1 in
+    (sym (t ∙ rw f (moved-full (st .args .state) _ (m .result) (st .args .sight))), (simp d at (r .1)) ∙ sym o)
 
 same-length-2 : tie.Need-same-length-2
 same-length-2 c = search needs
 
-returns-2 : tie.Need-returns-2
-unfolding turnOf outOf
-returns-2 c =
-    let a = c .before .before .before .before .before .before .before .before .before .before .before .advance .ensures in
-    let l = c .before .before .before .before .before .before .before .before .before .before .before .before .look-here .ensures in
-    let d = c .before .before .before .before .before .draw2 .ensures in
-    (simp (← l, ← a, c .before .before .before .before .before .before .before .before .before .next2 .given .1, ← d, ← c .before .before .before .before .before .before .before .is-done .ensures, c .before .before .before .before .before .before .if1 .taken) (simp (c .before .before .before .list2 .ensures .0) at (c .ends-with .ensures)), simp (← l, ← a, c .before .before .before .before .before .before .before .before .before .next2 .given .1, ← d, ← c .before .before .before .before .before .before .before .is-done .ensures, c .before .before .before .before .before .before .if1 .taken) (c .before .before .before .list2 .ensures .1))
-
 returns-3 : tie.Need-returns-3
-unfolding turnOf outOf
 returns-3 c =
-    let a = c .before .before .before .before .before .advance .ensures in
-    let l = c .before .before .before .before .before .before .look-here .ensures in
-    let f = c .before .is-done .ensures in
-    (simp (← l, ← a, c .before .before .before .next2 .given .1, ← f, c .if1 .left), simp (← l, ← a, c .before .before .before .next2 .given .1, ← f, c .if1 .left))
+    let st = c .before .before .before .before .before .before .before .before .before .before .before .before .before .before .before .before in
+    let l = c .before .before .before .before .before .before .before .before .before .before .before .before .before .before .look-here .ensures in
+    let m = c .before .before .before .before .before .before .before .before .before .before .before .before .motion-of in
+    let e = simp l at (m .ensures) in
+    let n = sym (c .before .before .before .before .before .before .before .before .before .before .before .is-still .ensures) ∙ c .before .before .before .before .before .before .before .before .before .before .if1 .left in
+    let t = moved-turn (st .args .words .now) (st .args .out .now) (st .args .state) (st .args .sight) (st .args .items) (m .result) e n in
+    let o = moved-list (st .args .words .now) (st .args .out .now) (st .args .state) (st .args .sight) (st .args .items) (m .result) e n in
+    let d = c .before .before .before .before .before .before .before .before .before .draw-motion .ensures in
+    let r = c .before .before .before .before .before .before .before .list .ensures in
+    let f = sym (simp d at (r .0)) ∙ c .before .before .before .listed .given .1 in
+    ((simp (c .before .advance-moved .ensures, l) at (c .listed-turn2 .ensures (st .args .state))) ∙ sym (t ∙ rw f), (simp d at (r .1)) ∙ sym o)
 
 pub take-turn-spec : {M : Type 1} → statement M
 take-turn-spec =
     tie.close
     (tie.spec
     look-here-requires
-    advance-requires
-    enum-known-next
-    draw-requires
+    motion-of-requires
+    is-still-requires
+    advance-still-requires
+    listed-turn-requires
+    draw-motion-requires
     list-requires
-    goes-on-requires
-    enum-known-next-2
-    is-done-requires
-    draw-requires-2
-    list-requires-2
-    ends-with-requires
-    same-length
+    enum-told
+    enum-known-listed
+    advance-moved-requires
+    listed-turn-requires-2
     returns
-    same-length-2
+    same-length
     returns-2
+    same-length-2
     returns-3)
