@@ -1,5 +1,5 @@
-//! With the feature `proved`, tells the linker where libcapi.a is: `KHAONUAT_LIB`, or the
-//! repository's own target/staticlib.
+//! With the feature `proved`, tells the linker where the static libraries of the proved calls are:
+//! `KHAONUAT_LIB`, or the repository's own target/staticlib.
 
 use std::{env, path::PathBuf};
 
@@ -12,7 +12,13 @@ fn main() {
         Some(folder) => PathBuf::from(folder),
         None => PathBuf::from(env::var_os("CARGO_MANIFEST_DIR").expect("cargo sets it")).join("../target/staticlib"),
     };
-    println!("cargo:rerun-if-changed={}", folder.join("libcapi.a").display());
     println!("cargo:rustc-link-search=native={}", folder.display());
-    println!("cargo:rustc-link-lib=static=capi");
+    let mut libraries = vec!["capi_validate", "capi_run"];
+    if env::var_os("CARGO_FEATURE_SCRIPT").is_some() {
+        libraries.push("capi_script");
+    }
+    for library in libraries {
+        println!("cargo:rerun-if-changed={}", folder.join(format!("lib{library}.a")).display());
+        println!("cargo:rustc-link-lib=static={library}");
+    }
 }

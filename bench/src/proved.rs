@@ -1,5 +1,6 @@
-//! The proved side: what libcapi.a exports, wrapped in safe functions. This is the one file that
-//! knows the boundary. Nothing checks these declarations against the Rattle source.
+//! The proved side: what the static libraries capi_validate, capi_run and capi_script export, one
+//! call each, wrapped in safe functions. This is the one file that knows the boundary. Nothing checks
+//! these declarations against the Rattle source.
 //!
 //! On the Rattle side, with `#[no_mangle] pub extern "C"`:
 //!

@@ -87,9 +87,10 @@ same-out (Stops s e) out = either-way (isDone e) out
 module _ (words out : List ℕ) (s : State) (sight items : ℕ) where
   still-by : motion.Still ≡ motionAt (lookAt words s) s → items ≤ length out / 8 → (turnOf words s sight items out ≡ turnBy s (stillOf s (lookAt words s)) (Next items)) × (outOf words s sight items out ≡ out)
   unfolding turnOf outOf
-  still-by e h =
-      (rw (still-advance s (lookAt words s) sight e, still-items s (lookAt words s) sight e words, none-listing out items h),
-      rw (still-items s (lookAt words s) sight e words, none-listed out items h) (same-out (advanceOf s (lookAt words s) sight) out))
+  still-by e h = (
+    rw (still-advance s (lookAt words s) sight e, still-items s (lookAt words s) sight e words, none-listing out items h),
+    rw (still-items s (lookAt words s) sight e words, none-listed out items h) (same-out (advanceOf s (lookAt words s) sight) out),
+  )
 
   pub still-turn : (m : Motion) → m ≡ motionAt (lookAt words s) s → isStill m ≡ true → items ≤ length out / 8 → (turnOf words s sight items out ≡ turnBy s (stillOf s (lookAt words s)) (Next items)) × (outOf words s sight items out ≡ out)
   still-turn motion.Still e t h = still-by e h

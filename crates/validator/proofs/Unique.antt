@@ -55,7 +55,8 @@ right-unique image su start (Values.passed c) (Values.refused n) x y = absurd y
 right-unique image su start (Values.fault n a k) (Values.refused m) x y = absurd y
 right-unique image su start (Values.refused n) w x y = absurd x
 
-judged-unique : (t : Tried) (image : List ℕ) (start : ℕ) (s s₁ s₂ : List ℕ) (v w : Values)
+-- what is judged, and the store that is left, are one
+pub judged-unique : (t : Tried) (image : List ℕ) (start : ℕ) (s s₁ s₂ : List ℕ) (v w : Values)
     → Judged t image start s s₁ v → Judged t image start s s₂ w → (v ≡ w) × (s₁ ≡ s₂)
 judged-unique (Tried.no n) image start s s₁ s₂ v w x y = (x .0 ∙ sym (y .0), x .1 ∙ sym (y .1))
 judged-unique (Tried.fine size) image start s s₁ s₂ v w x y = (right-unique image (setupOf size) start v w (x .0) (y .0), x .1 ∙ sym (y .1))

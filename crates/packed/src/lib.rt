@@ -1,0 +1,19 @@
+// A refusal packed into one number, as the calls for other languages answer it.
+use refusals::Refusal;
+ghost use mathlib.Core.Path.{_≡_};
+ghost use Rattle.refusals.specs.Refusals.{refusalNumber};
+ghost use Rattle.packed.specs.Packed.{refusedNumber};
+
+// The byte as a wide number.
+fn wide(b: u8) -> u64
+    ensures { λ r. ⌜ r ≡ b ⌝ }
+{
+    b as u64
+}
+
+// The number that answers a refusal.
+pub fn refused(refusal: Refusal) -> u64
+    ensures { λ r. ⌜ r ≡ refusedNumber (refusalNumber refusal) ⌝ }
+{
+    0x200000000000000 + wide(refusals::refusal_number(refusal))
+}
