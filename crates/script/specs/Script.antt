@@ -11,7 +11,7 @@ use Rattle.parse.specs.Parse.{numberOf}
 use Rattle.parse.specs.declared.Parsed.{Parsed}
 use Rattle.parse.specs.declared.Parsed.the-variants.{Number, Wrong}
 use Rattle.script.specs.declared.Request.{Request}
-use Rattle.script.specs.declared.Request.the-variants.{Fresh, Load, Command, Halt, SwitchOpen, SwitchClosed, Run, State, Words, Key, Empty, Error}
+use Rattle.script.specs.declared.Request.the-variants.{Fresh, Load, Command, Halt, SwitchOpen, SwitchClosed, Run, State, Words, Key, Cursor, Empty, Error}
 
 -- a line's first word, what stands behind the space after it, and whether there is no space
 unfoldable pub firstWord : List ℕ → List ℕ
@@ -138,7 +138,8 @@ plainOf line =
     cond (same line (spelled "state")) State
     (cond (same line (spelled "halt")) Halt
     (cond (same line (spelled "switch open")) SwitchOpen
-    (cond (same line (spelled "switch closed")) SwitchClosed (arguedOf (firstWord line) (restOf line)))))
+    (cond (same line (spelled "switch closed")) SwitchClosed
+    (cond (same line (spelled "cursor")) Cursor (arguedOf (firstWord line) (restOf line))))))
 
 -- empty lines and lines that begin with `#` are passed over
 unfoldable pub requestOf : List ℕ → Request

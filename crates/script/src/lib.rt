@@ -17,6 +17,7 @@ pub enum Request {
     Words(usize, usize),
     // A key by its number.
     Key(u16),
+    Cursor,
     Empty,
     Error,
 }
@@ -361,6 +362,9 @@ fn plain_of(line: &[u8]) -> Request
     }
     if same(line, b"switch closed") {
         return Request::SwitchClosed;
+    }
+    if same(line, b"cursor") {
+        return Request::Cursor;
     }
     argued_of(first_word(line), rest_of(line))
 }

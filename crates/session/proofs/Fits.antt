@@ -97,7 +97,8 @@ plain-fits line =
     either (same line (spelled "state")) (record { fits = tt })
     (either (same line (spelled "halt")) (record { fits = tt })
     (either (same line (spelled "switch open")) (record { fits = tt })
-    (either (same line (spelled "switch closed")) (record { fits = tt }) (argued-fits (firstWord line) (restOf line)))))
+    (either (same line (spelled "switch closed")) (record { fits = tt })
+    (either (same line (spelled "cursor")) (record { fits = tt }) (argued-fits (firstWord line) (restOf line))))))
 
 pub request-fits : (line : List ℕ) → Fits (requestOf line)
 unfolding requestOf

@@ -5,7 +5,7 @@ use mathlib.Core.Bool.{true, false, cond}
 use mathlib.Core.List.{List, [], _++_}
 use lib.ListN.{length, replicate}
 use lib.Dec.{leb}
-use Rattle.text.specs.Text.{putAt, endOf}
+use Rattle.text.specs.Text.{spelled, putAt, endOf}
 use Rattle.refusals.specs.Refusals.{refusalNumber}
 use Rattle.refusals.specs.declared.Refusal.{Refusal}
 use Rattle.orders.specs.Orders.{sizeOf}
@@ -13,7 +13,7 @@ use Rattle.step.specs.Step.{endNumber}
 use Rattle.replies.specs.Replies.{okLine, errorLine, refusedLine, heardLine, statusLine, ranLine, wordsLine}
 use Rattle.pictures.specs.Pictures.{itemsText}
 use Rattle.conditions.specs.Conditions.{stateLine}
-use Rattle.device.specs.Device.{freshOf, sizedOf, loadOf, switchedOf}
+use Rattle.device.specs.Device.{freshOf, sizedOf, loadOf, switchedOf, anyCursor}
 use Rattle.device.specs.declared.Device.{Device}
 use Rattle.device.specs.declared.Sized.{Sized}
 use Rattle.device.specs.declared.Sized.the-variants as sized
@@ -94,6 +94,10 @@ keySaid k = keyBy (k .device) (k .answer)
 abbrev pub stateSaid : Device → Said
 stateSaid d = said d (stateLine (d .state) (d .status) (d .sense))
 
+-- `cursor`: "prints `yes` or `no`"
+abbrev pub cursorSaid : Device → Said
+cursorSaid d = said d (cond (anyCursor d) (spelled "yes\n") (spelled "no\n"))
+
 -- `words FROM COUNT`: the words
 abbrev pub wordsSaid : Device → ℕ → ℕ → Said
 wordsSaid d from count = said d (wordsLine (d .words) (sizeOf (d .state .size)) from count)
@@ -122,6 +126,7 @@ saidBy d line (request.Run room) = runSaid d (sightsOf (restOf (restOf line))) (
 saidBy d line request.State = stateSaid d
 saidBy d line (request.Words from count) = wordsSaid d from count
 saidBy d line (request.Key number) = keySaid (keyOf d number)
+saidBy d line request.Cursor = cursorSaid d
 saidBy d line request.Empty = said d []
 saidBy d line request.Error = said d errorLine
 
@@ -141,6 +146,7 @@ Fits (request.Run room) = room ≤ 4096
 Fits request.State = Unit {0}
 Fits (request.Words from count) = Unit {0}
 Fits (request.Key number) = Unit {0}
+Fits request.Cursor = Unit {0}
 Fits request.Empty = Unit {0}
 Fits request.Error = Unit {0}
 

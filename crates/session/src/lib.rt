@@ -19,7 +19,7 @@ ghost use Rattle.replies.specs.Replies.{okLine, errorLine};
 ghost use Rattle.device.specs.Device.{loadOf};
 ghost use Rattle.commands.specs.Commands.{commandOf};
 ghost use Rattle.decode.specs.Decode.{bytesIn, wordsIn, sightsIn};
-ghost use Rattle.session.specs.Session.{said, refusedSaid, freshSaid, loadSaid, replySaid, commandSaid, ranSaid, runSaid, keySaid, stateSaid, wordsSaid, bytesOf, dumpOf, sightsOf, Fits, saidBy, saidOf, Speaks};
+ghost use Rattle.session.specs.Session.{said, refusedSaid, freshSaid, loadSaid, replySaid, commandSaid, ranSaid, runSaid, keySaid, stateSaid, cursorSaid, wordsSaid, bytesOf, dumpOf, sightsOf, Fits, saidBy, saidOf, Speaks};
 
 // The device after a request, and where its answer ends.
 pub struct Told {
@@ -246,6 +246,15 @@ fn show_state(device: Device, lines: &mut [u8], at: usize) -> Told
     Told { device, end }
 }
 
+// Whether any cursor is set.
+fn show_cursor(device: Device, lines: &mut [u8], at: usize) -> Told
+    ensures { λ r. ⌜ Speaks (cursorSaid device) (now (lines .entry)) at (now (lines .exit)) r ⌝ }
+{
+    let any = device::any_cursor(device);
+    let end = phrases::put_either(lines, at, any, b"yes\n", b"no\n");
+    Told { device, end }
+}
+
 // Words of the unit.
 fn show_words(device: Device, from: usize, count: usize, lines: &mut [u8], at: usize) -> Told
     ensures { λ r. ⌜ Speaks (wordsSaid device from count) (now (lines .entry)) at (now (lines .exit)) r ⌝ }
@@ -281,6 +290,7 @@ fn answer_by(device: Device, line: &[u8], request: Request, lines: &mut [u8], at
         Request::State => show_state(device, lines, at),
         Request::Words(from, count) => show_words(device, from, count, lines, at),
         Request::Key(number) => keyed_by(keys::key(device, number), lines, at),
+        Request::Cursor => show_cursor(device, lines, at),
         Request::Empty => passed_over(device, lines, at),
         Request::Error => wrong(device, lines, at),
     }

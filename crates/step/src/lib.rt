@@ -13,7 +13,7 @@ use pen::Pen;
 ghost use mathlib.Core.Path.{_≡_};
 ghost use Prim.Native.Nat.{_<_};
 ghost use Rattle.items.specs.Items.{itemsOf};
-ghost use Rattle.step.specs.Step.{endNumber, lookAt, seenOf, at, penned, beamed, stopped, struck, dataTo, eitherBy, advanceTo, hitBy, behindData, advanceOf, stillOf, movedOf, cursorHere, cursorNext, itemsMoved, itemsDrawn};
+ghost use Rattle.step.specs.Step.{endNumber, lookAt, seenOf, at, penned, beamed, stopped, struck, dataTo, eitherBy, advanceTo, hitBy, behindData, advanceOf, stillOf, movedOf, cursorHere, cursorNext, itemsMoved};
 
 // Why a run ends.
 pub enum End {
@@ -271,13 +271,4 @@ pub fn draw_motion(words: &[u16; 8192], state: State, motion: Motion, sight: u8)
         state.address,
         seen_of(pen, sight),
     )
-}
-
-// Lists what a step draws: its look, and what the pen is shown.
-pub fn draw(words: &[u16; 8192], state: State, look: Look, sight: u8) -> Drawn
-    ensures { λ r. ⌜ itemsOf r ≡ itemsDrawn (now (words .entry)) state look sight ⌝ }
-{
-    let mode = state.mode;
-    let beam = state.beam;
-    draw_motion(words, state, motion::motion_of(look, mode, beam), sight)
 }

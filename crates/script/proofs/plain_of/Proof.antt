@@ -58,6 +58,22 @@ returns-4 c =
     let test4 = sym (c .before .same4 .ensures) ∙ c .if4 .taken in
     simp (test1, test2, test3, test4)
 
+slice-aggregate-same-5 : tie.Need-slice-aggregate-same-5
+slice-aggregate-same-5 c = search needs
+
+same-requires-5 : tie.Need-same-requires-5
+same-requires-5 c κs = search needs
+
+returns-5 : tie.Need-returns-5
+unfolding plainOf
+returns-5 c =
+    let test1 = sym (c .before .before .before .before .before .before .before .before .before .before .before .before .before .same .ensures) ∙ c .before .before .before .before .before .before .before .before .before .before .before .before .if1 .left in
+    let test2 = sym (c .before .before .before .before .before .before .before .before .before .before .same2 .ensures) ∙ c .before .before .before .before .before .before .before .before .before .if2 .left in
+    let test3 = sym (c .before .before .before .before .before .before .before .same3 .ensures) ∙ c .before .before .before .before .before .before .if3 .left in
+    let test4 = sym (c .before .before .before .before .same4 .ensures) ∙ c .before .before .before .if4 .left in
+    let test5 = sym (c .before .same5 .ensures) ∙ c .if5 .taken in
+    simp (test1, test2, test3, test4, test5)
+
 first-word-requires : tie.Need-first-word-requires
 first-word-requires c κs = search needs
 
@@ -67,14 +83,15 @@ rest-of-requires c κs = search needs
 argued-of-requires : tie.Need-argued-of-requires
 argued-of-requires c κs = search needs
 
-returns-5 : tie.Need-returns-5
+returns-6 : tie.Need-returns-6
 unfolding plainOf
-returns-5 c =
-    let test1 = sym (c .before .before .before .before .before .before .before .before .before .before .before .before .before .same .ensures) ∙ c .before .before .before .before .before .before .before .before .before .before .before .before .if1 .left in
-    let test2 = sym (c .before .before .before .before .before .before .before .before .before .before .same2 .ensures) ∙ c .before .before .before .before .before .before .before .before .before .if2 .left in
-    let test3 = sym (c .before .before .before .before .before .before .before .same3 .ensures) ∙ c .before .before .before .before .before .before .if3 .left in
-    let test4 = sym (c .before .before .before .before .same4 .ensures) ∙ c .before .before .before .if4 .left in
-    simp (test1, test2, test3, test4) (simp (c .before .before .first-word .ensures, c .before .rest-of .ensures) at (c .argued-of .ensures))
+returns-6 c =
+    let test1 = sym (c .before .before .before .before .before .before .before .before .before .before .before .before .before .before .before .before .same .ensures) ∙ c .before .before .before .before .before .before .before .before .before .before .before .before .before .before .before .if1 .left in
+    let test2 = sym (c .before .before .before .before .before .before .before .before .before .before .before .before .before .same2 .ensures) ∙ c .before .before .before .before .before .before .before .before .before .before .before .before .if2 .left in
+    let test3 = sym (c .before .before .before .before .before .before .before .before .before .before .same3 .ensures) ∙ c .before .before .before .before .before .before .before .before .before .if3 .left in
+    let test4 = sym (c .before .before .before .before .before .before .before .same4 .ensures) ∙ c .before .before .before .before .before .before .if4 .left in
+    let test5 = sym (c .before .before .before .before .same5 .ensures) ∙ c .before .before .before .if5 .left in
+    simp (test1, test2, test3, test4, test5) (simp (c .before .before .first-word .ensures, c .before .rest-of .ensures) at (c .argued-of .ensures))
 
 pub plain-of-spec : {M : Type 1} → statement M
 plain-of-spec =
@@ -92,7 +109,10 @@ plain-of-spec =
     slice-aggregate-same-4
     same-requires-4
     returns-4
+    slice-aggregate-same-5
+    same-requires-5
+    returns-5
     first-word-requires
     rest-of-requires
     argued-of-requires
-    returns-5)
+    returns-6)

@@ -117,11 +117,17 @@ keyed-by-requires c κs = search needs
 enum-told-5 : tie.Need-enum-told-5
 enum-told-5 c = search needs
 
-passed-over-requires : tie.Need-passed-over-requires
-passed-over-requires c κs = search needs
+show-cursor-requires : tie.Need-show-cursor-requires
+show-cursor-requires c κs = search needs
 
 enum-told-6 : tie.Need-enum-told-6
 enum-told-6 c = search needs
+
+passed-over-requires : tie.Need-passed-over-requires
+passed-over-requires c κs = search needs
+
+enum-told-7 : tie.Need-enum-told-7
+enum-told-7 c = search needs
 
 wrong-requires : tie.Need-wrong-requires
 wrong-requires c κs = search needs
@@ -223,7 +229,7 @@ returns-11 : tie.Need-returns-11
 returns-11 c =
     let a = c .before .before .before .before .before .before .before .before .args in
     let told = ap (saidBy (a .device) (now (a .line))) (sym (c .before .before .before .before .enum-told5 .given .1)) in
-    speaks-as told (c .before .before .passed-over .ensures)
+    speaks-as told (c .before .before .show-cursor .ensures)
 
 same-length-12 : tie.Need-same-length-12
 same-length-12 c = search needs
@@ -232,6 +238,15 @@ returns-12 : tie.Need-returns-12
 returns-12 c =
     let a = c .before .before .before .before .before .before .before .before .args in
     let told = ap (saidBy (a .device) (now (a .line))) (sym (c .before .before .before .before .enum-told6 .given .1)) in
+    speaks-as told (c .before .before .passed-over .ensures)
+
+same-length-13 : tie.Need-same-length-13
+same-length-13 c = search needs
+
+returns-13 : tie.Need-returns-13
+returns-13 c =
+    let a = c .before .before .before .before .before .before .before .before .args in
+    let told = ap (saidBy (a .device) (now (a .line))) (sym (c .before .before .before .before .enum-told7 .given .1)) in
     speaks-as told (c .before .before .wrong .ensures)
 
 pub answer-by-spec : {M : Type 1} → statement M
@@ -271,8 +286,10 @@ answer-by-spec =
     key-requires
     keyed-by-requires
     enum-told-5
-    passed-over-requires
+    show-cursor-requires
     enum-told-6
+    passed-over-requires
+    enum-told-7
     wrong-requires
     same-length
     returns
@@ -297,4 +314,6 @@ answer-by-spec =
     same-length-11
     returns-11
     same-length-12
-    returns-12)
+    returns-12
+    same-length-13
+    returns-13)
