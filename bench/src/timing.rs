@@ -1,6 +1,7 @@
 //! Times both sides on the same input, turn and turn about in one run. A time is the least of many
-//! batches. Both sides clear what they need of the store before a search and all of it after; a run
-//! includes the loading of the dump.
+//! batches, each short, so that some are left alone by all else that the machine does. Both sides
+//! clear what they need of the store before a search and all of it after; a run includes the loading
+//! of the dump.
 
 use crate::compare::plain_run;
 use crate::device::word;
@@ -11,8 +12,8 @@ use crate::validator::{validate, Verdict, STORE};
 use std::hint::black_box;
 use std::time::{Duration, Instant};
 
-const ROUNDS: usize = 40;
-const BATCH: Duration = Duration::from_millis(3);
+const ROUNDS: usize = 300;
+const BATCH: Duration = Duration::from_micros(300);
 const STEPS: usize = 40_000;
 
 /// The least time of one call, in ns, for the plain side and the proved one.
