@@ -1,4 +1,4 @@
-// A whole script in memory, answered by one unit.
+// A whole script in memory, answered by one unit, for programs in other languages.
 //
 // The contracts cite `specs/Scripted.antt`.
 use device::Device;
@@ -10,7 +10,7 @@ ghost use lib.ListN.{length, drop};
 ghost use Rattle.bytes.specs.Bytes.{indexOf};
 ghost use Rattle.text.specs.Text.{putAt, endOf};
 ghost use Rattle.session.specs.Session.{saidOf, Speaks};
-ghost use Rattle.scripted.specs.Scripted.{firstLine, playOf};
+ghost use Rattle.capi_script.specs.Scripted.{firstLine, playOf};
 
 // What stands from a place on.
 fn behind(script: &[u8], from: usize) -> &[u8]
@@ -46,7 +46,8 @@ fn answer_first(device: Device, rest: &[u8], out: &mut [u8], at: usize) -> Told
 }
 
 // Plays a script on a fresh unit of 4,096: the answers of its lines stand one behind the other at the front of the buffer.
-pub fn play(script: &[u8], out: &mut [u8]) -> usize
+#[no_mangle]
+pub extern "C" fn khaonuat_script(script: &[u8], out: &mut [u8]) -> usize
     ensures { λ r. ⌜ r ≡ endOf (now (out .entry)) 0 (playOf (now (script .entry))) ⌝ }
     ensures { λ _. ⌜ now (out .exit) ≡ putAt (now (out .entry)) 0 (playOf (now (script .entry))) ⌝ }
 {

@@ -17,7 +17,7 @@ use Rattle.device.specs.Device.{freshOf}
 use Rattle.device.specs.declared.Device.{Device}
 use Rattle.session.specs.declared.Told.{Told}
 use Rattle.session.specs.Session.{saidOf, Speaks}
-use Rattle.scripted.specs.Scripted.{firstLine, joined, linesOf, answersOf, playOf}
+use Rattle.capi_script.specs.Scripted.{firstLine, joined, linesOf, answersOf, playOf}
 
 -- a script that is not empty: by its first byte, then by its first line
 by-byte : (byte : ℕ) (rest : List ℕ) (t : Bool) (n : ℕ)

@@ -4,10 +4,10 @@ use Prim.Native.Nat.{ℕ, _-_}
 use lib.ListN.{take}
 use denote.Ref.{now}
 use Rattle.bytes.specs.Bytes.{indexOf}
-use Rattle.scripted.specs.Scripted.{firstLine}
+use Rattle.capi_script.specs.Scripted.{firstLine}
 use borrow.Author.Needs.{needs}
-use Rattle.scripted.proofs.first_line.Statement.{statement}
-use Rattle.scripted.proofs.first_line.Tie as tie
+use Rattle.capi_script.proofs.first_line.Statement.{statement}
+use Rattle.capi_script.proofs.first_line.Tie as tie
 
 index-of-requires : tie.Need-index-of-requires
 index-of-requires c κs = search needs

@@ -5,9 +5,9 @@ use Prim.Native.Nat.{ℕ, _-_, _≤_}
 use lib.ListN.{length, length-drop}
 use denote.Ref.{now}
 use Rattle.text.proofs.Laws.{length-put}
-use Rattle.scripted.proofs.Laws.{Playing, playing-first, playing-next, played}
-use Rattle.scripted.proofs.play.Statement.{statement}
-use Rattle.scripted.proofs.play.Tie as tie
+use Rattle.capi_script.proofs.Laws.{Playing, playing-first, playing-next, played}
+use Rattle.capi_script.proofs.khaonuat_script.Statement.{statement}
+use Rattle.capi_script.proofs.khaonuat_script.Tie as tie
 
 abbrev Inv-loop : tie.InvT-loop
 Inv-loop script out₀ device₀ from₀ end₀ out device from end =
@@ -67,8 +67,8 @@ returns c =
     let a = c .before .before .before .before .before .args in
     played (now (a .out)) (now (a .script)) _ _ (l .from) _ (omega arith) (l .inv .2)
 
-pub play-spec : {M : Type 1} → statement M
-play-spec =
+pub khaonuat-script-spec : {M : Type 1} → statement M
+khaonuat-script-spec =
     tie.close
     (tie.spec
     Inv-loop

@@ -2,8 +2,8 @@ use mathlib.Core.Path.{ap}
 use Rattle.session.specs.Session.{saidOf}
 use Rattle.session.proofs.Laws.{speaks-as}
 use borrow.Author.Needs.{needs}
-use Rattle.scripted.proofs.answer_first.Statement.{statement}
-use Rattle.scripted.proofs.answer_first.Tie as tie
+use Rattle.capi_script.proofs.answer_first.Statement.{statement}
+use Rattle.capi_script.proofs.answer_first.Tie as tie
 
 first-line-requires : tie.Need-first-line-requires
 first-line-requires c κs = search needs

@@ -3,8 +3,8 @@ use lib.ListN.{drop-of-length-le}
 use denote.Ref.{now}
 use Rattle.script.proofs.Laws.{to-the-end}
 use borrow.Author.Needs.{needs}
-use Rattle.scripted.proofs.behind.Statement.{statement}
-use Rattle.scripted.proofs.behind.Tie as tie
+use Rattle.capi_script.proofs.behind.Statement.{statement}
+use Rattle.capi_script.proofs.behind.Tie as tie
 
 sub-result : tie.Need-sub-result
 sub-result c = search needs
