@@ -10,7 +10,7 @@ use stream::Output;
 use stream::Window;
 ghost use mathlib.Core.Path.{_≡_};
 ghost use Prim.Native.Nat.{_≤_, _<_};
-ghost use lib.ListN.{length, take};
+ghost use lib.ListN.{length};
 ghost use Rattle.bytes.specs.Bytes.{indexOf};
 ghost use Rattle.stream.specs.Stream.{heldOf};
 ghost use Rattle.session.specs.Session.{Speaks};
@@ -24,23 +24,13 @@ struct Turn {
     over: bool,
 }
 
-// The first bytes of a slice.
-fn first(bytes: &[u8], count: usize) -> &[u8]
-    ensures { λ r. ⌜ now r ≡ take count (now (bytes .entry)) ⌝ }
-{
-    if bytes.len() <= count {
-        return bytes;
-    }
-    &bytes[0..count]
-}
-
 // Answers what stands where a line was due.
 fn answer_at(device: Device, input: &[u8], line: Line, lines: &mut [u8], at: usize) -> Told
     ensures { λ r. ⌜ Speaks (saidAt device (now (input .entry)) line) (now (lines .entry)) at (now (lines .exit)) r ⌝ }
 {
     match line {
         Line::Whole(count, window) => {
-            let text = first(stream::held(input, window), count);
+            let text = stream::first(stream::held(input, window), count);
             session::answer(device, text, lines, at)
         }
         Line::Long(_) => {

@@ -140,16 +140,6 @@ fn put_answer(
     }
 }
 
-// The first bytes of a slice.
-fn first(bytes: &[u8], count: usize) -> &[u8]
-    ensures { λ r. ⌜ now r ≡ take count (now (bytes .entry)) ⌝ }
-{
-    if bytes.len() <= count {
-        return bytes;
-    }
-    &bytes[0..count]
-}
-
 // Puts the line of a whole record, where there is room for one.
 fn list_line(
     lines: &mut [u8],
@@ -193,7 +183,7 @@ fn list_whole(
     ensures { λ r. ⌜ r .window ≡ pastOf window count ⌝ }
     ensures { λ _. ⌜ ((end : ℕ) × Listed (payloadOf kind (take count (heldOf (now (input .entry)) window))) (drop 4 (take count (heldOf (now (input .entry)) window))) number (now (store .entry)) (now (store .exit)) (now (lines .entry)) (now (lines .exit)) end) ⌝ }
 {
-    let payload = first(stream::held(input, window), count);
+    let payload = stream::first(stream::held(input, window), count);
     let listed = list_line(lines, output, number, kind, payload, store);
     let next = stream::past(window, count);
     Turn {

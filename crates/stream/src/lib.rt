@@ -39,6 +39,16 @@ pub fn held(buffer: &[u8], window: Window) -> &[u8]
     &buffer[from..end]
 }
 
+// The first bytes of a slice.
+pub fn first(bytes: &[u8], count: usize) -> &[u8]
+    ensures { λ r. ⌜ now r ≡ take count (now (bytes .entry)) ⌝ }
+{
+    if bytes.len() <= count {
+        return bytes;
+    }
+    &bytes[0..count]
+}
+
 // The window once n of its bytes are used.
 pub fn past(window: Window, n: usize) -> Window
     ensures { λ r. ⌜ r ≡ pastOf window n ⌝ }

@@ -5,8 +5,8 @@ use lib.ListN.{take}
 use native.Mathlib.Omega.{arith}
 use lib.Seq.{take-all}
 use denote.Ref.{now}
-use Rattle.listing.proofs.first.Statement.{statement}
-use Rattle.listing.proofs.first.Tie as tie
+use Rattle.stream.proofs.first.Statement.{statement}
+use Rattle.stream.proofs.first.Tie as tie
 
 returns : tie.Need-returns
 returns c = sym (take-all (c .before .args .count) (now (c .before .args .bytes)) (c .if1 .taken))
