@@ -112,10 +112,7 @@ fn scripts(proved: &Proved, random: &mut Random) -> Result<(), String> {
     for number in 1..=SCRIPTS {
         let script = random::script(random);
         let wanted = console::answers(&script);
-        let Some(length) = proved.script(&script, &mut out) else {
-            println!("console scripts: not compared, the library plays none");
-            return Ok(());
-        };
+        let length = proved.script(&script, &mut out);
         if out[..length] != wanted[..] {
             let text = String::from_utf8_lossy(&script);
             return Err(format!("script {number}: {}\n{text}", vectors::first_difference(&out[..length], &wanted)));

@@ -9,7 +9,7 @@
 //!     the validator's answer
 //! khaonuat_script(script: &[u8], out: &mut [u8]) -> usize
 //!     one console session from its first line to its last: the bytes it printed into `out`,
-//!     which is lent large enough; with the feature `script`
+//!     which is lent large enough
 //! khaonuat_run(dump: &[u16], size: u32, start: u16, closed: bool, sights: &[u8], items: &mut [u16]) -> u64
 //!     loads the dump, sets the switch, starts the unit at `start` by the command 27 and runs it;
 //!     `items` has room for its length divided by eight items
@@ -46,7 +46,6 @@ mod ffi {
             store: *mut u8,
             store_length: usize,
         ) -> u64;
-        #[cfg(feature = "script")]
         pub fn khaonuat_script(script: *const u8, script_length: usize, out: *mut u8, out_length: usize) -> usize;
         pub fn khaonuat_run(
             dump: *const u16,
@@ -76,16 +75,10 @@ impl Proved {
         verdict_of(answer)
     }
 
-    /// The length of what was printed, if the library plays scripts.
-    #[cfg(feature = "script")]
-    pub fn script(&self, script: &[u8], out: &mut [u8]) -> Option<usize> {
+    /// The length of what was printed.
+    pub fn script(&self, script: &[u8], out: &mut [u8]) -> usize {
         // SAFETY: as above.
-        Some(unsafe { ffi::khaonuat_script(script.as_ptr(), script.len(), out.as_mut_ptr(), out.len()) })
-    }
-
-    #[cfg(not(feature = "script"))]
-    pub fn script(&self, _: &[u8], _: &mut [u8]) -> Option<usize> {
-        None
+        unsafe { ffi::khaonuat_script(script.as_ptr(), script.len(), out.as_mut_ptr(), out.len()) }
     }
 
     pub fn run(
@@ -126,7 +119,7 @@ impl Proved {
         match *self {}
     }
 
-    pub fn script(&self, _: &[u8], _: &mut [u8]) -> Option<usize> {
+    pub fn script(&self, _: &[u8], _: &mut [u8]) -> usize {
         match *self {}
     }
 
