@@ -3,6 +3,7 @@
 use crate::device::{Answer, Device, Refused};
 use crate::orders::Mode;
 use crate::pen::PenMode;
+use crate::typing::Key;
 use std::io::Write;
 
 const LONGEST_LINE: usize = 40_000;
@@ -68,6 +69,8 @@ impl Console {
             }
             [b"run", room] => self.run(room, &[])?,
             [b"run", room, sights] => self.run(room, &digits(sights)?)?,
+            [b"key", name] => self.key(name)?,
+            [b"cursor"] => say!(self, "{}", if self.unit.cursor().is_some() { "yes" } else { "no" }),
             [b"state"] => self.state(),
             [b"words", from, count] => self.words(number(from)?, number(count)?)?,
             _ => return None,
@@ -126,6 +129,23 @@ impl Console {
             3 => say!(self, "character {x} {y} code {code:02X} {size} at {address}"),
             _ => say!(self, "cursor {x} {y} code {code:02X} {size} at {address}"),
         }
+    }
+
+    fn key(&mut self, name: &[u8]) -> Option<()> {
+        let key = match name {
+            b"advance" => Ok(Key::Advance),
+            b"backspace" => Ok(Key::Backspace),
+            b"jump" => Ok(Key::Jump),
+            _ => {
+                let &[code] = &bytes(name)?[..] else { return None };
+                Key::of_code(code)
+            }
+        };
+        match key {
+            Ok(key) => say!(self, "{}", if self.unit.press(key) { "heard" } else { "unheard" }),
+            Err(Refused(n)) => say!(self, "refused {n}"),
+        }
+        Some(())
     }
 
     fn state(&mut self) {

@@ -308,20 +308,25 @@ impl Device {
                 self.state.address = u16::from_be_bytes([data[0], data[1]]);
                 self.state.mode = Mode::Idle;
             }
-            Command::InsertCursor => {
-                let at = self.state.address as usize;
-                self.words[at] = word::with_cursor(self.words[at], true);
-                let other = &mut self.words[at ^ 1];
-                if word::has_cursor(*other) {
-                    *other = word::with_cursor(*other, false);
-                }
-            }
-            Command::RemoveCursor => {
-                let at = &mut self.words[self.state.address as usize];
-                *at = word::with_cursor(*at, false);
-            }
+            Command::InsertCursor => self.insert_cursor(self.state.address),
+            Command::RemoveCursor => self.remove_cursor(self.state.address),
         }
         Answer { status: status::ENDED, given }
+    }
+
+    /// Sets the cursor of a location; the other one of its pair loses its own (000 p.21, note 3).
+    pub fn insert_cursor(&mut self, at: u16) {
+        let at = at as usize;
+        self.words[at] = word::with_cursor(self.words[at], true);
+        let other = &mut self.words[at ^ 1];
+        if word::has_cursor(*other) {
+            *other = word::with_cursor(*other, false);
+        }
+    }
+
+    pub fn remove_cursor(&mut self, at: u16) {
+        let at = &mut self.words[at as usize];
+        *at = word::with_cursor(*at, false);
     }
 
     fn write(&mut self, data: &[u8]) {

@@ -188,7 +188,7 @@ pub fn draw_characters(
 }
 
 const NULL: u8 = 0x00;
-const NEW_LINE: u8 = 0x15;
+pub const NEW_LINE: u8 = 0x15;
 const BLANK: u8 = 0x40;
 
 pub fn character_size(mode: Mode) -> CharacterSize {

@@ -14,6 +14,7 @@ mod random;
 mod records;
 mod step;
 mod timing;
+mod typing;
 mod validator;
 mod vectors;
 

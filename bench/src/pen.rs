@@ -1,13 +1,13 @@
 //! The light pen: its mode, its switch and its arming (000 p.28 and p.29; 01, "The pen").
 
-#[derive(Clone, Copy, PartialEq, Eq, Debug)]
+#[derive(Clone, Copy, PartialEq, Eq, Hash, Debug)]
 pub enum PenMode {
     Normal,
     Disabled,
     NoSwitch,
 }
 
-#[derive(Clone, Copy, PartialEq, Eq, Debug)]
+#[derive(Clone, Copy, PartialEq, Eq, Hash, Debug)]
 pub struct Pen {
     pub mode: PenMode,
     pub closed: bool,
