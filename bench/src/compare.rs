@@ -108,7 +108,7 @@ fn runs(proved: &Proved, random: &mut Random) -> Result<(), String> {
 
 fn scripts(proved: &Proved, random: &mut Random) -> Result<(), String> {
     let mut out = vec![0; PRINTED];
-    let mut ends = [0; 11];
+    let (mut ends, mut keys) = ([0; 11], [0; 3]);
     for number in 1..=SCRIPTS {
         let script = random::script(random);
         let wanted = console::answers(&script);
@@ -118,8 +118,13 @@ fn scripts(proved: &Proved, random: &mut Random) -> Result<(), String> {
             return Err(format!("script {number}: {}\n{text}", vectors::first_difference(&out[..length], &wanted)));
         }
         run_ends(&wanted).for_each(|end| ends[end] += 1);
+        for (count, answer) in keys.iter_mut().zip([&b"heard"[..], b"unheard", b"refused 13"]) {
+            *count += wanted.split(|&b| b == b'\n').filter(|&line| line == answer).count();
+        }
     }
+    let [heard, unheard, refused] = keys;
     println!("console scripts: {SCRIPTS} agree (their runs ended 0 to 10 {ends:?})");
+    println!("keys in them: {heard} heard, {unheard} unheard, {refused} refused");
     Ok(())
 }
 

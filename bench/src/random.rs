@@ -56,6 +56,18 @@ impl Random {
         self.pick(&ROWS).code
     }
 
+    /// A character, once in `lines` times a new line.
+    fn character(&mut self, lines: usize) -> u8 {
+        if self.once_in(lines) {
+            return 0x15;
+        }
+        match self.below(4) {
+            0 => self.pick(&[0x00, 0x40]),
+            1 => self.data_byte(),
+            _ => 0xC1 + self.below(9) as u8,
+        }
+    }
+
     fn data_byte(&mut self) -> u8 {
         match self.byte() {
             SM => 0x40,
@@ -184,7 +196,58 @@ pub fn sights(random: &mut Random, most: usize) -> Vec<u8> {
     (0..count).map(|_| if random.once_in(seldom) { random.below(3) as u8 } else { 0 }).collect()
 }
 
-/// A console script: programs written, started and run, between good and bad requests of all kinds.
+/// A program from `base` on, round the buffer: fields of characters between other orders. Beside it stand the characters'
+/// places in it.
+fn texts(random: &mut Random, base: usize, size: usize) -> (Vec<u8>, Vec<usize>) {
+    let fields = if random.once_in(8) { &[0x44, 0x45][..] } else { &[0x40, 0x41, 0x44, 0x45, 0x50, 0x51, 0x52] };
+    let lines = random.pick(&[2, 6, 99]);
+    let (mut program, mut characters) = (Vec::new(), Vec::new());
+    let (mut starts, mut targets) = (Vec::new(), Vec::new());
+    for _ in 0..random.pick(&[1, 3, 5, 8]) {
+        starts.push(base + program.len());
+        let code = match random.below(40) {
+            0 => random.byte(),
+            1..=5 => random.code(),
+            6..=10 => random.pick(&[0x82, 0x82, 0x84, 0x85, 0x86]),
+            11..=14 => 0xFD,
+            _ => random.pick(fields),
+        };
+        program.extend([SM, code]);
+        match code {
+            0xFD | 0xFF => {
+                targets.push(program.len());
+                program.extend([0, 0]);
+            }
+            0xC0 => program.extend(random.bytes(2)),
+            _ => {
+                let from = program.len();
+                for _ in 0..random.below(7) {
+                    let second = if random.once_in(30) { SM } else { random.character(lines) };
+                    program.extend([random.character(lines), second]);
+                }
+                if fields.contains(&code) {
+                    characters.extend(from..program.len());
+                }
+            }
+        }
+    }
+    match random.below(6) {
+        0 => program.extend([SM, 0x81]),
+        1 => {}
+        _ => {
+            program.extend([SM, 0xFF]);
+            targets.push(program.len());
+            program.extend([0, 0]);
+        }
+    }
+    for at in targets {
+        let target = if random.once_in(20) { random.next() as usize } else { random.pick(&starts) % size };
+        program[at..at + 2].copy_from_slice(&(target as u16).to_be_bytes());
+    }
+    (program, characters)
+}
+
+/// A console script: programs written, started and run, texts typed at, between good and bad requests of all kinds.
 pub fn script(random: &mut Random) -> Vec<u8> {
     let mut script = String::new();
     let mut size = 4096;
@@ -193,9 +256,91 @@ pub fn script(random: &mut Random) -> Vec<u8> {
             request(random, &mut size, &mut script);
             script.push('\n');
         }
-        episode(random, size, &mut script);
+        if random.once_in(3) {
+            typing(random, &mut size, &mut script);
+        } else {
+            episode(random, size, &mut script);
+        }
     }
     script.into_bytes()
+}
+
+/// Writes or loads texts and sets cursors in them; may start them; presses keys and looks at the words.
+fn typing(random: &mut Random, size: &mut u32, script: &mut String) {
+    if random.once_in(2) {
+        *size = random.size();
+        let _ = writeln!(script, "fresh {size}");
+    }
+    let locations = *size as usize;
+    let base = random.pick(&[0, 1000, locations - 8, locations - 20, locations - 40]);
+    let (program, characters) = texts(random, base, locations);
+    let place = |random: &mut Random| {
+        let any = characters.is_empty() || random.once_in(9);
+        (base + if any { random.below(program.len()) } else { random.pick(&characters) }) % locations
+    };
+    if random.once_in(4) {
+        let mut words = vec![word::FRESH; locations];
+        for (i, &byte) in program.iter().enumerate() {
+            words[(base + i) % locations] = word::stored(byte, false, true);
+        }
+        for _ in 0..random.pick(&[0, 1, 1, 2, 9]) {
+            let at = place(random);
+            words[at] = word::with_cursor(words[at], true);
+            if random.once_in(2) {
+                words[at ^ 1] = word::with_cursor(words[at ^ 1], true);
+            }
+        }
+        for _ in 0..random.pick(&[0, 1, 3]) {
+            words[place(random)] ^= 1 << random.below(11);
+        }
+        load_words(*size, &words, script);
+        script.push('\n');
+    } else {
+        let _ = write!(script, "command 00 0\ncommand 07 0 {base:04X}\ncommand 01 0 ");
+        program.iter().for_each(|b| write!(script, "{b:02X}").expect("a string takes it all"));
+        script.push('\n');
+        for _ in 0..random.pick(&[0, 1, 1, 1, 2, 3]) {
+            let _ = writeln!(script, "command 07 0 {:04X}\ncommand 0F 0", place(random));
+        }
+    }
+    if random.once_in(2) {
+        script.push_str(random.pick(&["switch closed\n", "switch open\nswitch closed\n"]));
+    }
+    if random.once_in(2) {
+        let _ = writeln!(script, "command 27 0 {base:04X}");
+    }
+    for _ in 0..random.below(32) {
+        match random.below(16) {
+            0 => script.push_str("cursor"),
+            1 => run_request(random, script),
+            2 => {
+                let insert_or_remove = random.pick(&["0F", "0F", "1F"]);
+                let _ = write!(script, "command 07 0 {:04X}\ncommand {insert_or_remove} 0", place(random));
+            }
+            _ => key_request(random, script),
+        }
+        let _ = writeln!(script, "\nwords {base} {}", program.len().min(locations - base));
+        if base + program.len() > locations {
+            let _ = writeln!(script, "words 0 {}", base + program.len() - locations);
+        }
+    }
+    if random.once_in(8) {
+        let _ = writeln!(script, "words 0 {size}");
+    }
+}
+
+fn key_request(random: &mut Random, line: &mut String) {
+    match random.below(12) {
+        0 => {
+            let _ = write!(line, "key {:02X}", random.byte());
+        }
+        1..=4 => {
+            let _ = write!(line, "key {:02X}", random.pick(&[0x00, 0x40, 0x4A, 0x61, 0x7F, 0xC1, 0xD9, 0xE2, 0xF0]));
+        }
+        5..=7 => line.push_str("key advance"),
+        8..=10 => line.push_str("key backspace"),
+        _ => line.push_str("key jump"),
+    }
 }
 
 /// Loads a dump, or writes a program at 0 with cursors here and there; starts it and runs it a few times.
@@ -233,6 +378,10 @@ fn load_request(random: &mut Random, size: u32, line: &mut String) {
     if random.once_in(8) {
         words.pop();
     }
+    load_words(size, &words, line);
+}
+
+fn load_words(size: u32, words: &[u16], line: &mut String) {
     let _ = write!(line, "load {size} ");
     words.iter().for_each(|w| write!(line, "{w:04X}").expect("a string takes it all"));
 }
@@ -250,7 +399,7 @@ fn run_request(random: &mut Random, line: &mut String) {
 }
 
 fn request(random: &mut Random, size: &mut u32, line: &mut String) {
-    match random.below(24) {
+    match random.below(28) {
         0 if random.once_in(4) => {
             *size = random.size();
             let _ = write!(line, "fresh {size}");
@@ -312,9 +461,18 @@ fn request(random: &mut Random, size: &mut u32, line: &mut String) {
                 "fresh 123456",
                 "COMMAND 00 0",
                 "command 00 0 00",
+                "key",
+                "key 1",
+                "key c1",
+                "key C1C2",
+                "key end",
+                "key jump ",
+                "cursor yes",
             ];
             line.push_str(random.pick(&bad));
         }
+        18..=20 => key_request(random, line),
+        21 => line.push_str("cursor"),
         _ => {
             let code = random.pick(&["00", "02", "03", "04", "04", "06", "0B", "0F", "12", "1F"]);
             let _ = write!(line, "command {code} {}", random.pick(&[0, 1, 3, 4, 40, 9000]));
