@@ -20,7 +20,8 @@ use Rattle.walks.specs.Walks.{Reach, Right}
 use Rattle.codes.specs.Codes.{classOf, addressIn}
 use Rattle.commands.specs.Commands.{commandOf, triedOf}
 use Rattle.device.specs.declared.Device.{Device}
-use Rattle.device.specs.Device.{freshOf, loadOf}
+use Rattle.device.specs.Device.{freshOf}
+use Rattle.loading.specs.Loading.{loadOf}
 use Rattle.commands.specs.Commands.{Outcome}
 use Rattle.roundtrips.specs.RoundTrips.{Bytes}
 use Rattle.roundtrips.specs.Images.{dumpOf}

@@ -11,7 +11,8 @@ use Rattle.items.specs.declared.Listing.{Listing}
 use Rattle.items.specs.declared.Listing.the-variants.{Full, Next}
 use Rattle.device.specs.declared.State.{State}
 use Rattle.device.specs.declared.Device.{Device}
-use Rattle.step.specs.Step.{lookAt, advanceOf, itemsDrawn}
+use Rattle.step.specs.Step.{lookAt, advanceOf}
+use Rattle.strokes.specs.Strokes.{itemsDrawn}
 use Rattle.step.specs.declared.End.{End}
 use Rattle.step.specs.declared.Stepped.{Stepped}
 use Rattle.step.specs.declared.Stepped.the-variants as stepped

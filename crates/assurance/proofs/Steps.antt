@@ -1,18 +1,18 @@
 -- One step of a device within the walks of an image that passed: it meets no fault and no bad parity, and stays within the walks.
 use Prim.Native.Nat.{ℕ, suc}
 use mathlib.Core.Path.{_≡_, refl, sym, _∙_, subst, ap}
-use mathlib.Core.Logic.{_⊎_, inl, inr}
-use mathlib.Core.Bool.{Bool, true, false, cond, false≢true}
+use mathlib.Core.Logic.{inl, inr}
+use mathlib.Core.Bool.{Bool, true, false, false≢true}
 use mathlib.Core.List.{List}
 use Rattle.orders.specs.declared.Size.{Size}
-use Rattle.orders.specs.declared.Mode.{Mode}
 use Rattle.orders.specs.declared.Mode.the-variants.{Idle}
-use Rattle.groups.specs.Groups.{imageGroup, wordsGroup}
+use Rattle.groups.specs.Groups.{imageGroup}
 use Rattle.look.specs.Look.{faultNumber, lookOf}
 use Rattle.look.specs.Loaded.{Carries, same-look}
 use Rattle.look.specs.declared.Look.{Look}
 use Rattle.look.specs.declared.Look.the-variants as look
-use Rattle.pen.specs.Pen.{transfers}
+use Rattle.motion.specs.Motion.{beamAfter}
+use Rattle.pen.specs.Pen.{seenOf, transfers}
 use Rattle.walks.specs.Places.{place}
 use Rattle.walks.specs.Steps.{Step, Leads, stepBy, stepOf}
 use Rattle.walks.specs.Walks.{Reach, Reached}
@@ -22,7 +22,7 @@ use Rattle.walks.specs.declared.Setup.{Setup}
 use Rattle.drawing.specs.declared.Hit.{Hit}
 use Rattle.drawing.specs.declared.Hit.the-variants as hit
 use Rattle.device.specs.declared.State.{State}
-use Rattle.step.specs.Step.{lookAt, advanceBy, advanceOf, seenOf, hitAt, eitherBy}
+use Rattle.step.specs.Step.{lookAt, motionAt, advanceTo, advanceWith, advanceOf, hitBy, eitherBy}
 use Rattle.step.specs.declared.Stepped.{Stepped}
 use Rattle.step.specs.declared.Stepped.the-variants as stepped
 use Rattle.assurance.specs.Promise.{Sound, Within}
@@ -55,7 +55,7 @@ module _ (image : List ℕ) (size : Size) (start : ℕ) where
     either-kept t next e true = (runs, record { same = same; reached = λ r. goes (look.Either t next) e (place t Idle) (inl refl) })
     either-kept t next e false = (runs, record { same = same; reached = λ r. goes (look.Either t next) e (place next Idle) (inr refl) })
 
-    kept-by : (h : Hit) (l : Look) → lookOf (imageGroup image size) size (s .address) (s .mode) ≡ l → stepOf image su (place (s .address) (s .mode)) ≡ stepBy (s .mode) l → Kept (advanceBy s h l)
+    kept-by : (h : Hit) (l : Look) → lookOf (imageGroup image size) size (s .address) (s .mode) ≡ l → stepOf image su (place (s .address) (s .mode)) ≡ stepBy (s .mode) l → Kept (advanceTo s (beamAfter (motionAt l s) (s .beam)) h l)
     kept-by h (look.Fault f) e w = absurd (clear k _ (faultNumber f) here w)
     kept-by h (look.Check a) e w = absurd (no-check image size (s .address) (s .mode) a e)
     kept-by h (look.Enter m next) e w = (runs, record { same = same; reached = λ r. goes (look.Enter m next) w (place next m) refl })
@@ -72,10 +72,10 @@ module _ (image : List ℕ) (size : Size) (start : ℕ) where
 
     -- a step with any sight
     pub step-kept : (words : List ℕ) → Carries words image size → (sight : ℕ) → Kept (advanceOf s (lookAt words s) sight)
-    unfolding advanceOf stepOf
+    unfolding advanceOf advanceWith stepOf
     step-kept words carries sight =
         let l : Look = lookAt words s in
         let e : lookOf (imageGroup image size) size (s .address) (s .mode) ≡ l =
         rw same (sym (same-look words image size carries (s .address) (s .mode)))
         in
-        kept-by (hitAt s l (seenOf (s .pen) sight)) l e (ap (stepBy (s .mode)) e)
+        kept-by (hitBy s (motionAt l s) (seenOf (s .pen) sight)) l e (ap (stepBy (s .mode)) e)

@@ -1,22 +1,14 @@
-// The buffer's words under writes, reads and the cursor commands. Whoever stores also answers the number of set cursor bits, given the
-// number before.
+// The buffer's words under writes and the cursor commands. Whoever stores also answers the number of set cursor bits, given the number
+// before.
 //
 // The contracts cite `specs/Buffer.antt`.
 use orders::Size;
 ghost use mathlib.Core.Path.{_≡_};
-ghost use mathlib.Core.Bool.{true, false, cond, not, _&&_};
+ghost use mathlib.Core.Bool.{true, false};
 ghost use Prim.Native.Nat.{_+_, _<_};
 ghost use lib.ListN.{set};
-ghost use Rattle.buffer.specs.Buffer.{nextOf, countStored, wordsWritten, writeEnded, givenOf, goesOn, endedAt, roomRead, readOf, cursorSet, otherOf, cursorAt, cursorRemoved, countRemoved, cursorCleared, countCleared, cursorInserted, countInserted};
-ghost use Rattle.location.specs.Location.{cursorOf};
+ghost use Rattle.buffer.specs.Buffer.{countStored, wordsWritten, writeEnded, cursorSet, otherOf, cursorRemoved, countRemoved, cursorCleared, countCleared, cursorInserted, countInserted};
 ghost use Rattle.orders.specs.Orders.{wrapOf};
-
-// How a read ended: the bytes given, the address then, and whether the parity of all was good.
-pub struct Read {
-    pub count: usize,
-    pub address: usize,
-    pub good: bool,
-}
 
 // How a write ended: the address behind the last byte, and the number of set cursor bits.
 pub struct Written {
@@ -62,81 +54,6 @@ pub fn write_in(
     Written {
         address: a,
         cursors: count,
-    }
-}
-
-// Whether a read that seeks the cursor has found it.
-fn found(seek: bool, word: u16) -> bool
-    ensures { λ r. ⌜ r ≡ (seek && cursorOf word) ⌝ }
-{
-    if seek {
-        location::cursor_of(word)
-    } else {
-        false
-    }
-}
-
-// The byte that a read gives of a word.
-fn given(seek: bool, word: u16) -> u8
-    ensures { λ r. ⌜ r ≡ givenOf seek word ⌝ }
-{
-    if found(seek, word) {
-        0x1A
-    } else {
-        location::data_of(word)
-    }
-}
-
-// Whether a read goes on behind a word.
-fn goes_on(seek: bool, word: u16) -> bool
-    ensures { λ r. ⌜ r ≡ goesOn seek word ⌝ }
-{
-    if location::good(word) {
-        !found(seek, word)
-    } else {
-        false
-    }
-}
-
-// A read that ends at a word.
-fn ended(size: Size, count: usize, a: usize, word: u16) -> Read
-    requires { ⌜ a < 8192 ⌝ }
-    ensures { λ r. ⌜ r ≡ endedAt size count a word ⌝ }
-{
-    if location::good(word) {
-        Read {
-            count: count,
-            address: a,
-            good: true,
-        }
-    } else {
-        Read {
-            count: count,
-            address: orders::wrap(size, a + 1),
-            good: false,
-        }
-    }
-}
-
-// Reads from an address on into the room, and stops behind bad parity or, where it seeks the cursor, there.
-pub fn read_out(words: &[u16; 8192], size: Size, seek: bool, at: usize, room: &mut [u8]) -> Read
-    ensures { λ r. ⌜ (r ≡ readOf (now (words .entry)) size seek at (now (room .entry))) × (now (room .exit) ≡ roomRead (now (words .entry)) size seek at (now (room .entry))) ⌝ }
-{
-    let mut a = orders::wrap(size, at);
-    let mut i = 0;
-    while i < room.len() {
-        let word = words[a];
-        room[i] = given(seek, word);
-        i += 1;
-        if !goes_on(seek, word) {
-            return ended(size, i, a, word);
-        }
-        a = orders::wrap(size, a + 1);
-    }
-    Read {
-        count: i,
-        address: a,
-        good: true,
     }
 }
 

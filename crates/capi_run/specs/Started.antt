@@ -6,10 +6,11 @@ use Prim.Native.Nat.{ℕ, _+_, _*_, _/_, _%_}
 use Rattle.orders.specs.declared.Size.the-variants.{K4}
 use Rattle.refusals.specs.Refusals.{refusalNumber}
 use Rattle.packed.specs.Packed.{refusedNumber}
-use Rattle.device.specs.Device.{freshOf, loadOf, switchedOf}
+use Rattle.device.specs.Device.{freshOf, switchedOf}
+use Rattle.loading.specs.Loading.{loadOf}
 use Rattle.device.specs.declared.Device.{Device}
-use Rattle.device.specs.declared.Answer.{Answer}
-use Rattle.device.specs.declared.Answer.the-variants as answer
+use Rattle.loading.specs.declared.Answer.{Answer}
+use Rattle.loading.specs.declared.Answer.the-variants as answer
 use Rattle.commands.specs.Commands.{commandOf}
 use Rattle.commands.specs.declared.Answered.{Answered}
 use Rattle.commands.specs.declared.Reply.{Reply}

@@ -3,20 +3,13 @@
 //
 // The contract cites `specs/Started.antt`.
 use commands::Reply;
-use device::Answer;
 use device::Device;
+use loading::Answer;
 use orders::Size;
 use run::Outcome;
 ghost use mathlib.Core.Path.{_≡_};
 ghost use Prim.Native.Nat.{_<_};
 ghost use Rattle.capi_run.specs.Started.{outcomeNumber, repliedNumber, repliedList, startedNumber, startedList, loadedNumber, loadedList};
-
-// The byte as a wide number.
-fn wide(b: u8) -> u64
-    ensures { λ r. ⌜ r ≡ b ⌝ }
-{
-    b as u64
-}
 
 // The number that answers a run.
 fn outcome_number(outcome: Outcome) -> u64
@@ -24,7 +17,7 @@ fn outcome_number(outcome: Outcome) -> u64
 {
     match outcome {
         Outcome::Done(steps, end, items) => {
-            wide(step::end_number(end)) * 0x1000000000000
+            packed::wide(step::end_number(end)) * 0x1000000000000
                 + items as u64 % 0x1000000 * 0x1000000
                 + steps as u64 % 0x1000000
         }
@@ -70,7 +63,7 @@ pub extern "C" fn khaonuat_run(
 ) -> u64
     ensures { λ r. ⌜ (r ≡ loadedNumber size (now (dump .entry)) start closed (now (sights .entry)) (now (items .entry))) × (now (items .exit) ≡ loadedList size (now (dump .entry)) start closed (now (sights .entry)) (now (items .entry))) ⌝ }
 {
-    let loaded = device::load(device::fresh(Size::K4), size as usize, dump);
+    let loaded = loading::load(device::fresh(Size::K4), size as usize, dump);
     let answer = loaded.answer;
     let unit = loaded.device;
     match answer {

@@ -8,13 +8,6 @@ ghost use lib.ListN.{length};
 ghost use Rattle.validator.specs.Verdict.{valuesOf, triedOf};
 ghost use Rattle.capi_validate.specs.Told.{verdictNumber, Told};
 
-// The byte as a wide number.
-fn wide(b: u8) -> u64
-    ensures { λ r. ⌜ r ≡ b ⌝ }
-{
-    b as u64
-}
-
 // The number that answers a verdict.
 fn verdict_number(verdict: Verdict) -> u64
     ensures { λ r. ⌜ r ≡ verdictNumber (valuesOf verdict) ⌝ }
@@ -23,7 +16,7 @@ fn verdict_number(verdict: Verdict) -> u64
         Verdict::Passed(places) => places as u64 % 0x100000000,
         Verdict::Fault(fault, at, steps) => {
             0x100000000000000
-                + wide(look::fault_number(fault)) * 0x1000000000000
+                + packed::wide(look::fault_number(fault)) * 0x1000000000000
                 + at as u64 % 0x10000 * 0x100000000
                 + steps as u64 % 0x100000000
         }

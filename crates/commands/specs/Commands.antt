@@ -8,8 +8,9 @@ use Rattle.orders.specs.Orders.{wrapOf}
 use Rattle.orders.specs.declared.Mode.{Mode}
 use Rattle.orders.specs.declared.Mode.the-variants.{Idle, Point, Vector, IncrementalPoint, IncrementalVector, Basic, Large}
 use Rattle.beam.specs.Beam.{highByte, lowByte}
-use Rattle.buffer.specs.Buffer.{wordsWritten, addressWritten, countWritten, readOf, roomRead, cursorInserted, countInserted, cursorRemoved, countRemoved}
-use Rattle.buffer.specs.declared.Read.{Read}
+use Rattle.buffer.specs.Buffer.{wordsWritten, addressWritten, countWritten, cursorInserted, countInserted, cursorRemoved, countRemoved}
+use Rattle.reading.specs.Reading.{readOf, roomRead}
+use Rattle.reading.specs.declared.Read.{Read}
 use Rattle.device.specs.declared.State.{State}
 use Rattle.device.specs.declared.Sense.{Sense}
 use Rattle.device.specs.declared.Device.{Device}

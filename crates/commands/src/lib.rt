@@ -1,13 +1,13 @@
 // The commands of the channel: each takes the device, the bytes sent and the room lent, and answers beside the device.
 //
 // The contracts cite `specs/Commands.antt`.
-use buffer::Read;
 use codes::Class;
 use codes::Sent;
 use device::Device;
 use device::Sense;
 use device::State;
 use orders::Mode;
+use reading::Read;
 use refusals::Refusal;
 ghost use mathlib.Core.Path.{_≡_};
 ghost use mathlib.Core.Bool.{cond, not, _&&_};
@@ -263,7 +263,7 @@ fn read_buffer(device: Device, seek: bool, room: &mut [u8]) -> Answered
 {
     let state = device.state;
     let size = state.size;
-    let read = buffer::read_out(&device.words, size, seek, state.address, room);
+    let read = reading::read_out(&device.words, size, seek, state.address, room);
     read_ended(device, read)
 }
 

@@ -7,7 +7,7 @@ use native.Mathlib.Numerals.{add-one}
 use lib.ListN.{length, take, set, List·getD-eq-default}
 use lib.Seq.{take-suc-set}
 use Rattle.phrases.specs.Phrases.{eachOf}
-use Rattle.script.specs.Script.{digitAt, byteAt, wordAt}
+use Rattle.digits.specs.Digits.{digitAt, byteAt, wordAt}
 use Rattle.decode.specs.Decode.{listed}
 
 pub none-read : (value : ℕ → ℕ) (out : List ℕ) → take 0 out ≡ listed value 0

@@ -2,7 +2,7 @@
 use Prim.Native.Nat.{ℕ, _*_}
 use mathlib.Core.List.{List, [], _∷_}
 use Rattle.phrases.specs.Phrases.{eachOf}
-use Rattle.script.specs.Script.{digitAt, byteAt, wordAt}
+use Rattle.digits.specs.Digits.{digitAt, byteAt, wordAt}
 
 -- the values of 0, 1, .. as a list, n of them
 abbrev pub listed : (ℕ → ℕ) → ℕ → List ℕ

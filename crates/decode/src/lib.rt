@@ -5,7 +5,7 @@
 ghost use mathlib.Core.Path.{_≡_};
 ghost use Prim.Native.Nat.{_*_};
 ghost use lib.ListN.{length};
-ghost use Rattle.script.specs.Script.{byteAt, wordAt};
+ghost use Rattle.digits.specs.Digits.{byteAt, wordAt};
 ghost use Rattle.decode.specs.Decode.{bytesIn, wordsIn, sightsIn};
 
 // The byte of an index in a text.
@@ -13,9 +13,9 @@ fn byte_in(text: &[u8], i: usize) -> u8
     ensures { λ r. ⌜ r ≡ byteAt (now (text .entry)) (2 * i) ⌝ }
 {
     if i <= text.len() / 2 {
-        return script::byte_at(text, 2 * i);
+        return digits::byte_at(text, 2 * i);
     }
-    script::byte_at(text, text.len())
+    digits::byte_at(text, text.len())
 }
 
 // The word of an index in a text.
@@ -23,9 +23,9 @@ fn word_in(text: &[u8], i: usize) -> u16
     ensures { λ r. ⌜ r ≡ wordAt (now (text .entry)) (4 * i) ⌝ }
 {
     if i <= text.len() / 4 {
-        return script::word_at(text, 4 * i);
+        return digits::word_at(text, 4 * i);
     }
-    script::word_at(text, text.len())
+    digits::word_at(text, text.len())
 }
 
 // Reads bytes of two digits each.
@@ -56,7 +56,7 @@ pub fn read_sights(text: &[u8], out: &mut [u8])
 {
     let mut i = 0;
     while i < out.len() {
-        out[i] = script::digit_at(text, i);
+        out[i] = digits::digit_at(text, i);
         i += 1;
     }
 }

@@ -1,20 +1,14 @@
--- The device: what it holds, what a fresh one is, and what loading a dump and moving the pen's switch make of it
--- (01, "Locations and the device").
-use Prim.Native.Nat.{ℕ, _-_, _/_}
-use mathlib.Core.Bool.{Bool, true, false, cond, not, _&&_}
-use mathlib.Core.List.{List, [], _∷_, _++_}
+-- The device: what it holds, what a fresh one is, and what moving the pen's switch makes of it (01, "Locations and the device").
+use Prim.Native.Nat.{ℕ}
+use mathlib.Core.Bool.{Bool, false, cond, not}
+use mathlib.Core.List.{List}
 use lib.Dec.{eqb}
-use lib.ListN.{length, replicate}
-use Rattle.location.specs.Location.{freshWord, properOf}
-use Rattle.orders.specs.Orders.{sizeOf}
-use Rattle.counts.specs.Counts.{cursorsIn}
+use lib.ListN.{replicate}
+use Rattle.location.specs.Location.{freshWord}
 use Rattle.orders.specs.declared.Size.{Size}
 use Rattle.orders.specs.declared.Size.the-variants.{K4, K8}
-use Rattle.orders.specs.declared.Mode.{Mode}
 use Rattle.orders.specs.declared.Mode.the-variants.{Idle}
-use Rattle.refusals.specs.declared.Refusal.{Refusal}
-use Rattle.refusals.specs.declared.Refusal.the-variants.{WrongSize, UnusedBit, WrongCount}
-use Rattle.beam.specs.declared.Beam.{Beam}
+use Rattle.refusals.specs.declared.Refusal.the-variants.{WrongSize}
 use Rattle.pen.specs.Pen.{fresh, switched}
 use Rattle.pen.specs.declared.Pen.{Pen}
 use Rattle.device.specs.declared.State.{State}
@@ -22,9 +16,6 @@ use Rattle.device.specs.declared.Sense.{Sense}
 use Rattle.device.specs.declared.Device.{Device}
 use Rattle.device.specs.declared.Sized.{Sized}
 use Rattle.device.specs.declared.Sized.the-variants as sized
-use Rattle.device.specs.declared.Answer.{Answer}
-use Rattle.device.specs.declared.Answer.the-variants as answer
-use Rattle.device.specs.declared.Loaded.{Loaded}
 
 -- "stopped at address 0, idle, beam at 0,0, pen mode normal, switch open"
 abbrev pub freshState : Size → State
@@ -45,33 +36,6 @@ freshOf s = freshWith s (replicate 8192 freshWord) 0
 -- "size is neither 4,096 nor 8,192" is refusal 1
 abbrev pub sizedOf : ℕ → Sized
 sizedOf n = cond (eqb n 4096) (sized.Of K4) (cond (eqb n 8192) (sized.Of K8) (sized.Refused WrongSize))
-
--- no word of a dump has an unused bit set
-unfoldable pub allProper : List ℕ → Bool
-allProper [] = true
-allProper (w ∷ ws) = properOf w && allProper ws
-
--- "A dump is a list of such words for the whole buffer"; "a 4,096 unit never uses the upper half"
-unfoldable pub dumpWords : List ℕ → List ℕ
-dumpWords dump = dump ++ replicate (8192 - length dump) freshWord
-
--- a fresh device with the words of a dump, and the full count of their cursor bits (02, C-15)
-abbrev pub freshLoaded : Size → List ℕ → Device
-freshLoaded s dump = freshWith s (dumpWords dump) (cursorsIn (sizeOf s) (dumpWords dump))
-
-abbrev pub refusedBy : Device → Refusal → Loaded
-refusedBy d r = record { device = d; answer = answer.Refused r }
-
--- "loading one gives a fresh device with these words, bad parity included"; refused "1, 10, 9 for dumps"
-abbrev pub loadedBy : Device → List ℕ → Sized → Loaded
-loadedBy d dump (sized.Refused r) = refusedBy d r
-loadedBy d dump (sized.Of s) =
-    cond (eqb (length dump) (sizeOf s))
-    (cond (allProper dump) (record { device = freshLoaded s dump; answer = answer.Done }) (refusedBy d UnusedBit))
-    (refusedBy d WrongCount)
-
-unfoldable pub loadOf : Device → ℕ → List ℕ → Loaded
-loadOf d size dump = loadedBy d dump (sizedOf size)
 
 -- a state with another pen
 abbrev pub withPen : State → Pen → State

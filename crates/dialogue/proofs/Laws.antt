@@ -3,8 +3,8 @@ use Prim.Native.Nat.{ℕ}
 use mathlib.Core.Path.{_≡_, sym, ap, _∙_}
 use mathlib.Core.List.{List}
 use lib.ListN.{take}
-use Rattle.stream.specs.Stream.{heldOf}
-use Rattle.stream.specs.declared.Window.{Window}
+use Rattle.window.specs.Window.{heldOf}
+use Rattle.window.specs.declared.Window.{Window}
 use Rattle.readline.specs.declared.Line.{Line}
 use Rattle.readline.specs.declared.Line.the-variants.{Whole}
 use Rattle.device.specs.declared.Device.{Device}

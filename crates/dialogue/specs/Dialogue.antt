@@ -4,9 +4,9 @@ use mathlib.Core.Path.{_≡_}
 use mathlib.Core.Bool.{Bool, true, false}
 use mathlib.Core.List.{List, []}
 use lib.ListN.{length, take}
-use Rattle.stream.specs.Stream.{heldOf, pastOf}
-use Rattle.stream.specs.declared.Window.{Window}
-use Rattle.stream.specs.declared.Output.{Output}
+use Rattle.window.specs.Window.{heldOf, pastOf}
+use Rattle.window.specs.declared.Window.{Window}
+use Rattle.output.specs.declared.Output.{Output}
 use Rattle.readline.specs.declared.Line.{Line}
 use Rattle.readline.specs.declared.Line.the-variants.{Whole, Long, End}
 use Rattle.readline.specs.Readline.{Lined}

@@ -4,15 +4,15 @@
 // The contracts cite `specs/Dialogue.antt`.
 use device::Device;
 use orders::Size;
+use output::Output;
 use readline::Line;
 use session::Told;
-use stream::Output;
-use stream::Window;
+use window::Window;
 ghost use mathlib.Core.Path.{_≡_};
 ghost use Prim.Native.Nat.{_≤_, _<_};
 ghost use lib.ListN.{length};
 ghost use Rattle.bytes.specs.Bytes.{indexOf};
-ghost use Rattle.stream.specs.Stream.{heldOf};
+ghost use Rattle.window.specs.Window.{heldOf};
 ghost use Rattle.session.specs.Session.{Speaks};
 ghost use Rattle.dialogue.specs.Dialogue.{saidAt, windowBehind, endOfInput, Taken, Turned};
 
@@ -30,7 +30,7 @@ fn answer_at(device: Device, input: &[u8], line: Line, lines: &mut [u8], at: usi
 {
     match line {
         Line::Whole(count, window) => {
-            let text = stream::first(stream::held(input, window), count);
+            let text = window::first(window::held(input, window), count);
             session::answer(device, text, lines, at)
         }
         Line::Long(_) => {
@@ -49,7 +49,7 @@ fn window_behind(line: Line) -> Window
     ensures { λ r. ⌜ r ≡ windowBehind line ⌝ }
 {
     match line {
-        Line::Whole(count, window) => stream::past(stream::past(window, count), 1),
+        Line::Whole(count, window) => window::past(window::past(window, count), 1),
         Line::Long(window) => window,
         Line::End => Window { from: 0, end: 0 },
     }
@@ -71,7 +71,7 @@ fn take_turn(device: Device, input: &[u8], line: Line, lines: &mut [u8], output:
     ensures { λ r. ⌜ Taken (saidAt device (now (input .entry)) line) (now (lines .entry)) (now (lines .exit)) (r .device) (r .output) ⌝ }
     ensures { λ r. ⌜ (r .window ≡ windowBehind line) × (r .over ≡ endOfInput line) ⌝ }
 {
-    let ready = stream::room(lines, output, 262144);
+    let ready = output::room(lines, output, 262144);
     let told = answer_at(device, input, line, lines, ready.at);
     let after = told.device;
     Turn {
@@ -89,11 +89,11 @@ fn take_turn(device: Device, input: &[u8], line: Line, lines: &mut [u8], output:
 fn before_read(input: &[u8], window: Window, lines: &[u8], output: Output) -> Output
     ensures { λ r. ⌜ (indexOf 10 (heldOf (now (input .entry)) window) < length (heldOf (now (input .entry)) window) → r ≡ output) ⌝ }
 {
-    let held = stream::held(input, window);
+    let held = window::held(input, window);
     if parse::index_of(b'\n', held) < held.len() {
         return output;
     }
-    stream::flush(lines, output)
+    output::flush(lines, output)
 }
 
 // Reads the next line and answers it.
@@ -125,7 +125,7 @@ fn hold_in(input: &mut [u8], lines: &mut [u8], most: usize) -> usize
         window = turn.window;
         output = turn.output;
         if turn.over {
-            stream::flush(lines, output);
+            output::flush(lines, output);
             return number;
         }
         number += 1;
@@ -133,7 +133,7 @@ fn hold_in(input: &mut [u8], lines: &mut [u8], most: usize) -> usize
             return number;
         }
     }
-    stream::flush(lines, output);
+    output::flush(lines, output);
     number
 }
 

@@ -3,7 +3,7 @@ use Prim.Native.Nat.{ℕ}
 use mathlib.Core.Bool.{Bool, cond, _||_}
 use mathlib.Core.List.{List}
 use lib.Dec.{eqb}
-use Rattle.orders.specs.Orders.{orderOf}
+use Rattle.rows.specs.Rows.{orderOf}
 use Rattle.orders.specs.declared.Size.{Size}
 use Rattle.orders.specs.declared.Mode.{Mode}
 use Rattle.orders.specs.declared.Mode.the-variants.{Idle, Point, Vector, IncrementalPoint, IncrementalVector, Basic, Large}

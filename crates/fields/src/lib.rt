@@ -71,7 +71,7 @@ fn found_field(shut: bool, found: Found) -> Field
 pub fn code_field(code: u8) -> Field
     ensures { λ r. ⌜ r ≡ codeField code ⌝ }
 {
-    found_field(is_protected(code), orders::order_of(code))
+    found_field(is_protected(code), rows::order_of(code))
 }
 
 // The field behind an order that was looked for.

@@ -99,9 +99,13 @@ fn hop_by(next: Stepped, landing: Spot) -> Hop
 fn hop_of(words: &[u16; 8192], state: State) -> Hop
     ensures { λ r. ⌜ r ≡ hopOf (now (words .entry)) state ⌝ }
 {
-    let look = step::look_here(words, state);
+    let size = state.size;
+    let mode = state.mode;
+    let beam = state.beam;
+    let look = look::look_at(words, size, state.address, mode);
     let spot = landing(words, state, look);
-    hop_by(step::advance(state, look, 0), spot)
+    let motion = motion::motion_of(look, mode, beam);
+    hop_by(step::advance(state, look, motion, 0), spot)
 }
 
 // A search of at most n steps.

@@ -12,7 +12,8 @@ use Rattle.groups.specs.Groups.{wordsGroup}
 use Rattle.look.specs.declared.Look.{Look}
 use Rattle.look.specs.declared.Look.the-variants as look
 use Rattle.beam.specs.declared.Beam.{Beam}
-use Rattle.pen.specs.Pen.{detects, transfers}
+use Rattle.motion.specs.Motion.{beamAfter}
+use Rattle.pen.specs.Pen.{seenOf, detects, transfers}
 use Rattle.walks.specs.declared.Place.{Place}
 use Rattle.walks.specs.Places.{place, Proper}
 use Rattle.walks.specs.Steps.{Leads, stepBy}
@@ -22,7 +23,7 @@ use Rattle.drawing.specs.declared.Hit.{Hit}
 use Rattle.drawing.specs.declared.Hit.the-variants.{Missed}
 use Rattle.drawing.specs.declared.Hit.the-variants as hit
 use Rattle.device.specs.declared.State.{State}
-use Rattle.step.specs.Step.{lookAt, at, motionAt, seenOf, hitAt, eitherBy, advanceBy, advanceOf}
+use Rattle.step.specs.Step.{lookAt, at, motionAt, hitBy, eitherBy, advanceTo, advanceWith, advanceOf}
 use Rattle.step.specs.declared.Stepped.{Stepped}
 use Rattle.step.specs.declared.Stepped.the-variants as stepped
 use Rattle.seek.specs.declared.Spot.{Spot}
@@ -46,7 +47,7 @@ none-seen : (b : Bool) → _≡_ {A = ℕ} (cond b 0 0) 0
 none-seen true = refl
 none-seen false = refl
 
-no-sight : (s : State) (l : Look) → hitAt s l (seenOf (s .pen) 0) ≡ Missed
+no-sight : (s : State) (l : Look) → hitBy s (motionAt l s) (seenOf (s .pen) 0) ≡ Missed
 unfolding seenOf
 no-sight s l = rw (none-seen (detects (s .pen))) (no-hit (strokesOf (motionAt l s) (s .beam) false false (s .size) (s .address)))
 
@@ -70,7 +71,7 @@ module _ (words : List ℕ) (s : State) (running : Bool) (beam : Beam) where
   either target next true = search
   either target next false = search
 
-  by-look : (l : Look) → SameHop (hopBy (advanceBy s Missed l) (landingBy words s l)) (hopBy (advanceBy other Missed l) (landingBy words other l))
+  by-look : (l : Look) → SameHop (hopBy (advanceTo s (beamAfter (motionAt l s) (s .beam)) Missed l) (landingBy words s l)) (hopBy (advanceTo other (beamAfter (motionAt l other) (other .beam)) Missed l) (landingBy words other l))
   by-look (look.Fault f) = refl
   by-look (look.Check a) = refl
   by-look (look.Enter m next) = enters m next (landingBy words s (look.Enter m next))
@@ -84,7 +85,7 @@ module _ (words : List ℕ) (s : State) (running : Bool) (beam : Beam) where
   by-look (look.Four a b c d next) = search
 
   other-hop : SameHop (hopOf words s) (hopOf words other)
-  unfolding hopOf advanceOf
+  unfolding hopOf advanceOf advanceWith
   other-hop = rw (no-sight s (lookAt words s), no-sight other (lookAt words s)) (by-look (lookAt words s))
 
 same-hop : (words : List ℕ) (s t : State) → Same s t → SameHop (hopOf words s) (hopOf words t)
@@ -131,7 +132,7 @@ module _ (size : Size) (s : State) (same : s .size ≡ size) where
   placed-either target next true p q = record { same = same; proper = p }
   placed-either target next false p q = record { same = same; proper = q }
 
-  placed-advance : (l : Look) → ((q : Place) → Leads (stepBy (s .mode) l) q → Proper size q) → PlacedStep size (advanceBy s Missed l)
+  placed-advance : (l : Look) → ((q : Place) → Leads (stepBy (s .mode) l) q → Proper size q) → PlacedStep size (advanceTo s (beamAfter (motionAt l s) (s .beam)) Missed l)
   placed-advance (look.Fault f) P = tt
   placed-advance (look.Check a) P = tt
   placed-advance (look.Enter m next) P = record { same = same; proper = P _ refl }
@@ -147,7 +148,7 @@ module _ (size : Size) (s : State) (same : s .size ≡ size) where
 
 -- from a place of the buffer a step of the search goes on to one
 pub placed-hop : (words : List ℕ) (size : Size) (s : State) → Placed size s → PlacedHop size (hopOf words s)
-unfolding hopOf advanceOf
+unfolding hopOf advanceOf advanceWith
 placed-hop words size s h =
     let l = lookAt words s in
     placed-hop-by size (advanceOf s l 0) (landingBy words s l)

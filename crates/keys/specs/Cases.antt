@@ -8,7 +8,7 @@ use lib.Count.{ones, onesIn}
 use lib.Dec.{eqb}
 use lib.ListN.{length}
 use Rattle.location.specs.Location.{wordOf}
-use Rattle.orders.specs.Orders.{table, findIn, orderOf}
+use Rattle.rows.specs.Rows.{table, findIn, orderOf}
 use Rattle.orders.specs.declared.Size.the-variants.{K4}
 use Rattle.refusals.specs.declared.Refusal.the-variants.{UnknownKey}
 use Rattle.groups.specs.Groups.{wordsGroup}
@@ -22,7 +22,8 @@ use Rattle.counts.specs.Counts.{cursorsIn, recounted}
 use Rattle.buffer.specs.Buffer.{cursorCleared, countCleared, cursorInserted, countInserted}
 use Rattle.device.specs.Device.{freshWith}
 use Rattle.device.specs.declared.Device.{Device}
-use Rattle.step.specs.Step.{seenOf, advanceOf}
+use Rattle.step.specs.Step.{advanceOf, advanceWith}
+use Rattle.pen.specs.Pen.{seenOf}
 use Rattle.signs.specs.Signs.{byteAt, codeAt, orderAt, lineAt}
 use Rattle.seek.specs.Seek.{seekFrom, cursorIn, orderBehind, forwardOf, backwardOf}
 use Rattle.fields.specs.Fields.{codeField, fieldOf}
@@ -174,5 +175,5 @@ expected c = record { words = c .after; counted = true; answer = c .answer }
 
 -- each case of the table holds
 pub all : map results cases ≡ map expected cases
-unfolding keyOf numberedOf letterOf signOf actOf characterOf cursorMoved countMoved characterStored countTyped cursorInserted countInserted cursorCleared countCleared cursorsIn recounted cursorIn orderBehind forwardOf backwardOf seekFrom byteAt codeAt orderAt lineAt fieldOf codeField jumpOf jumpFrom hopOf advanceOf seenOf detects timed hitIn strokesOf codesStrokes codeStrokes hasCursor draws motionOf twoOf fourOf blankedPlace lookOf wordsGroup wordOf orderOf findIn table ones onesIn
+unfolding keyOf numberedOf letterOf signOf actOf characterOf cursorMoved countMoved characterStored countTyped cursorInserted countInserted cursorCleared countCleared cursorsIn recounted cursorIn orderBehind forwardOf backwardOf seekFrom byteAt codeAt orderAt lineAt fieldOf codeField jumpOf jumpFrom hopOf advanceOf advanceWith seenOf detects timed hitIn strokesOf codesStrokes codeStrokes hasCursor draws motionOf twoOf fourOf blankedPlace lookOf wordsGroup wordOf orderOf findIn table ones onesIn
 all = refl

@@ -15,8 +15,8 @@ use Rattle.records.specs.declared.Head.{Head}
 use Rattle.records.specs.declared.Head.the-variants as head
 use Rattle.records.specs.declared.Payload.{Payload}
 use Rattle.records.proofs.Head.{the-type as head-type}
-use Rattle.stream.specs.Stream.{heldOf, pastOf}
-use Rattle.stream.specs.declared.Window.{Window}
+use Rattle.window.specs.Window.{heldOf, pastOf}
+use Rattle.window.specs.declared.Window.{Window}
 use Rattle.listing.specs.Listing.{Answered, Listed, LastLine}
 use Rattle.listing.specs.declared.Entry.{Entry}
 use Rattle.listing.specs.declared.Entry.the-variants.{Whole, Cut, End}

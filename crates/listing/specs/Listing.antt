@@ -11,9 +11,9 @@ use Rattle.records.specs.declared.Head.{Head}
 use Rattle.records.specs.declared.Head.the-variants as head
 use Rattle.records.specs.declared.Payload.{Payload}
 use Rattle.records.specs.declared.Payload.the-variants as payload
-use Rattle.stream.specs.Stream.{heldOf, pastOf}
-use Rattle.stream.specs.declared.Window.{Window}
-use Rattle.stream.specs.declared.Output.{Output}
+use Rattle.window.specs.Window.{heldOf, pastOf}
+use Rattle.window.specs.declared.Window.{Window}
+use Rattle.output.specs.declared.Output.{Output}
 use Rattle.lines.specs.Lines.{passedLine, faultLine, refusedLine}
 use Rattle.validator.specs.Verdict.{Values, triedOf, Judged}
 use Rattle.listing.specs.declared.Entry.{Entry}

@@ -6,15 +6,15 @@ ghost use Prim.Native.Nat.{ℕ, _≤_};
 ghost use lib.ListN.{length, take, drop};
 ghost use Rattle.text.specs.Text.{putAt, endOf};
 ghost use Rattle.records.specs.Records.{payloadOf};
-ghost use Rattle.stream.specs.Stream.{heldOf, pastOf};
+ghost use Rattle.window.specs.Window.{heldOf, pastOf};
 ghost use Rattle.validator.specs.Verdict.{valuesOf};
 ghost use Rattle.listing.specs.Listing.{keptOf, endedOf, Rest, Found, verdictLine, Answered, Listed, Ended};
+use output::Output;
 use records::Head;
 use records::Payload;
 use refusals::Refusal;
-use stream::Output;
-use stream::Window;
 use validator::Verdict;
+use window::Window;
 
 // What is found where a record was due.
 enum Entry {
@@ -61,12 +61,12 @@ fn without_head(head: Head) -> Entry
 fn read_rest(input: &mut [u8], window: Window, length: usize, kind: usize) -> Entry
     ensures { λ r. ⌜ Rest (now (input .entry)) window length kind (now (input .exit)) r ⌝ }
 {
-    let next = stream::fill(input, window, kept(length));
-    let count = stream::held(input, next).len();
+    let next = input::fill(input, window, kept(length));
+    let count = window::held(input, next).len();
     if length <= count {
         return Entry::Whole(kind, length, next);
     }
-    if stream::skip(length - count) {
+    if input::skip(length - count) {
         return Entry::Whole(kind, count, next);
     }
     Entry::Cut(records::read_cut(kind))
@@ -76,12 +76,12 @@ fn read_rest(input: &mut [u8], window: Window, length: usize, kind: usize) -> En
 fn read_record(input: &mut [u8], window: Window) -> Entry
     ensures { λ r. ⌜ Found (now (input .entry)) window (now (input .exit)) r ⌝ }
 {
-    let next = stream::fill(input, window, 6);
-    let head = records::read_head(stream::held(input, next));
+    let next = input::fill(input, window, 6);
+    let head = records::read_head(window::held(input, next));
     let Head::Record { length, kind } = head else {
         return without_head(head);
     };
-    read_rest(input, stream::past(next, 6), length, kind)
+    read_rest(input, window::past(next, 6), length, kind)
 }
 
 // The image in a payload of kind 1.
@@ -151,7 +151,7 @@ fn list_line(
 ) -> Output
     ensures { λ r. ⌜ Listed (payloadOf kind (now (payload .entry))) (drop 4 (now (payload .entry))) number (now (store .entry)) (now (store .exit)) (now (lines .entry)) (now (lines .exit)) (r .at) ⌝ }
 {
-    let ready = stream::room(lines, output, 128);
+    let ready = output::room(lines, output, 128);
     let at = put_answer(lines, ready.at, number, kind, payload, store);
     Output {
         at,
@@ -163,8 +163,8 @@ fn list_line(
 fn before_read(input: &[u8], window: Window, lines: &[u8], output: Output) -> Output
     ensures { λ r. ⌜ (6 ≤ length (heldOf (now (input .entry)) window) → r ≡ output) ⌝ }
 {
-    if stream::held(input, window).len() < 6 {
-        return stream::flush(lines, output);
+    if window::held(input, window).len() < 6 {
+        return output::flush(lines, output);
     }
     output
 }
@@ -183,9 +183,9 @@ fn list_whole(
     ensures { λ r. ⌜ r .window ≡ pastOf window count ⌝ }
     ensures { λ _. ⌜ ((end : ℕ) × Listed (payloadOf kind (take count (heldOf (now (input .entry)) window))) (drop 4 (take count (heldOf (now (input .entry)) window))) number (now (store .entry)) (now (store .exit)) (now (lines .entry)) (now (lines .exit)) end) ⌝ }
 {
-    let payload = stream::first(stream::held(input, window), count);
+    let payload = window::first(window::held(input, window), count);
     let listed = list_line(lines, output, number, kind, payload, store);
-    let next = stream::past(window, count);
+    let next = window::past(window, count);
     Turn {
         window: next,
         output: before_read(input, next, lines, listed),
@@ -197,11 +197,11 @@ fn list_last(lines: &mut [u8], output: Output, number: usize, entry: Entry) -> O
     ensures { λ r. ⌜ Ended entry number (now (lines .entry)) (now (lines .exit)) r ⌝ }
 {
     let Entry::Cut(refusal) = entry else {
-        return stream::flush(lines, output);
+        return output::flush(lines, output);
     };
-    let ready = stream::room(lines, output, 128);
+    let ready = output::room(lines, output, 128);
     let at = lines::put_refused(lines, ready.at, number, number_of(refusal));
-    stream::flush(
+    output::flush(
         lines,
         Output {
             at,
@@ -231,7 +231,7 @@ fn list_in(input: &mut [u8], lines: &mut [u8], store: &mut [u8], most: usize) ->
             return number;
         }
     }
-    stream::flush(lines, output);
+    output::flush(lines, output);
     number
 }
 

@@ -7,7 +7,7 @@ use Prim.Native.Nat.{ℕ}
 use lib.ListN.{replicate}
 use lib.Count.{ones, onesIn}
 use Rattle.location.specs.Location.{wordOf}
-use Rattle.orders.specs.Orders.{table, findIn, orderOf}
+use Rattle.rows.specs.Rows.{table, findIn, orderOf}
 use Rattle.orders.specs.declared.Size.{Size}
 use Rattle.orders.specs.declared.Size.the-variants.{K4, K8}
 use Rattle.orders.specs.declared.Mode.{Mode}

@@ -139,7 +139,7 @@ fn first_by(size: Size, at: usize, mode: Mode, group: Group) -> Begun
         Group::Bad(bad) => Begun::Done(Look::Check(bad)),
         Group::Bytes(even, odd) => {
             if even == 0x2A {
-                found_by(size, at, orders::order_of(odd))
+                found_by(size, at, rows::order_of(odd))
             } else {
                 data_by(size, at, even, odd, mode)
             }

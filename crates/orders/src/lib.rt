@@ -1,11 +1,11 @@
-// The orders of a display program: the constant table of their rows and the look-up by code, with the modes that they
-// enter, the sizes of a buffer and the wrap of an address.
+// The orders of a display program: what a row says of one, with the modes that they enter, the sizes of a buffer and the wrap of an
+// address.
 //
-// The contracts cite `specs/Orders.antt`; `specs/Rows.antt` proves the table's rule.
+// The contracts cite `specs/Orders.antt`.
 
 ghost use mathlib.Core.Path.{_≡_};
 ghost use Prim.Native.Nat.{_<_, _≤_};
-ghost use Rattle.orders.specs.Orders.{sizeOf, wrapOf, modeNumber, orderOf};
+ghost use Rattle.orders.specs.Orders.{sizeOf, wrapOf, modeNumber};
 
 // The locations of a buffer: 4,096 or 8,192.
 pub enum Size {
@@ -62,110 +62,6 @@ pub enum Found {
     Missing,
 }
 
-// 000 p.24, Table 4, with the codes of its notes 4 and 5.
-const TABLE: [Row; 20] = [
-    Row {
-        code: 0x00,
-        length: 2,
-        follows: Follows::Enter(Mode::Point),
-    },
-    Row {
-        code: 0x02,
-        length: 2,
-        follows: Follows::Enter(Mode::Vector),
-    },
-    Row {
-        code: 0x04,
-        length: 2,
-        follows: Follows::Enter(Mode::IncrementalPoint),
-    },
-    Row {
-        code: 0x05,
-        length: 2,
-        follows: Follows::Enter(Mode::IncrementalVector),
-    },
-    Row {
-        code: 0x40,
-        length: 2,
-        follows: Follows::Enter(Mode::Basic),
-    },
-    Row {
-        code: 0x41,
-        length: 2,
-        follows: Follows::Enter(Mode::Large),
-    },
-    Row {
-        code: 0x44,
-        length: 2,
-        follows: Follows::Enter(Mode::Basic),
-    },
-    Row {
-        code: 0x45,
-        length: 2,
-        follows: Follows::Enter(Mode::Large),
-    },
-    Row {
-        code: 0x50,
-        length: 2,
-        follows: Follows::Enter(Mode::Basic),
-    },
-    Row {
-        code: 0x51,
-        length: 2,
-        follows: Follows::Enter(Mode::Large),
-    },
-    Row {
-        code: 0x52,
-        length: 2,
-        follows: Follows::Enter(Mode::Basic),
-    },
-    Row {
-        code: 0x80,
-        length: 2,
-        follows: Follows::Pass,
-    },
-    Row {
-        code: 0x81,
-        length: 2,
-        follows: Follows::End,
-    },
-    Row {
-        code: 0x82,
-        length: 2,
-        follows: Follows::Timer,
-    },
-    Row {
-        code: 0x84,
-        length: 2,
-        follows: Follows::SetPen(PenMode::Normal),
-    },
-    Row {
-        code: 0x85,
-        length: 2,
-        follows: Follows::SetPen(PenMode::Disabled),
-    },
-    Row {
-        code: 0x86,
-        length: 2,
-        follows: Follows::SetPen(PenMode::NoSwitch),
-    },
-    Row {
-        code: 0xC0,
-        length: 4,
-        follows: Follows::Pass,
-    },
-    Row {
-        code: 0xFD,
-        length: 4,
-        follows: Follows::NoDetect,
-    },
-    Row {
-        code: 0xFF,
-        length: 4,
-        follows: Follows::Transfer,
-    },
-];
-
 // How many locations a buffer has.
 pub fn size_of(size: Size) -> usize
     ensures { λ r. ⌜ (r ≡ sizeOf size) × (r ≤ 8192) ⌝ }
@@ -198,35 +94,5 @@ pub fn mode_number(mode: Mode) -> usize
         Mode::IncrementalVector => 4,
         Mode::Basic => 5,
         Mode::Large => 6,
-    }
-}
-
-// The row of the table that has the code.
-pub fn order_of(code: u8) -> Found
-    ensures { λ r. ⌜ r ≡ orderOf code ⌝ }
-{
-    let rows = TABLE;
-    match code {
-        0x00 => Found::Order(rows[0]),
-        0x02 => Found::Order(rows[1]),
-        0x04 => Found::Order(rows[2]),
-        0x05 => Found::Order(rows[3]),
-        0x40 => Found::Order(rows[4]),
-        0x41 => Found::Order(rows[5]),
-        0x44 => Found::Order(rows[6]),
-        0x45 => Found::Order(rows[7]),
-        0x50 => Found::Order(rows[8]),
-        0x51 => Found::Order(rows[9]),
-        0x52 => Found::Order(rows[10]),
-        0x80 => Found::Order(rows[11]),
-        0x81 => Found::Order(rows[12]),
-        0x82 => Found::Order(rows[13]),
-        0x84 => Found::Order(rows[14]),
-        0x85 => Found::Order(rows[15]),
-        0x86 => Found::Order(rows[16]),
-        0xC0 => Found::Order(rows[17]),
-        0xFD => Found::Order(rows[18]),
-        0xFF => Found::Order(rows[19]),
-        _ => Found::Missing,
     }
 }

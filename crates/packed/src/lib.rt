@@ -1,11 +1,11 @@
-// A refusal packed into one number, as the calls for other languages answer it.
+// What the calls for other languages answer, packed into one number.
 use refusals::Refusal;
 ghost use mathlib.Core.Path.{_≡_};
 ghost use Rattle.refusals.specs.Refusals.{refusalNumber};
 ghost use Rattle.packed.specs.Packed.{refusedNumber};
 
 // The byte as a wide number.
-fn wide(b: u8) -> u64
+pub fn wide(b: u8) -> u64
     ensures { λ r. ⌜ r ≡ b ⌝ }
 {
     b as u64

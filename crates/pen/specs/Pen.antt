@@ -1,4 +1,5 @@
 -- The light pen (01, "The pen"; 000 p.28 and p.29).
+use Prim.Native.Nat.{ℕ}
 use mathlib.Core.Bool.{Bool, true, false, cond, not, _&&_, _||_, Bool·beq}
 use Rattle.orders.specs.declared.PenMode.{PenMode}
 use Rattle.orders.specs.declared.PenMode.the-variants.{Normal, Disabled, NoSwitch}
@@ -43,6 +44,10 @@ detectsIn p NoSwitch = true
 
 unfoldable pub detects : Pen → Bool
 detects p = detectsIn p (p .mode)
+
+-- "A detect needs armed normal mode, or no-switch mode": else nothing is seen
+unfoldable pub seenOf : Pen → ℕ → ℕ
+seenOf p sight = cond (detects p) sight 0
 
 -- "Only one normal light pen detect can occur for each switch closure" (000 p.28); a no-detect transfer takes its place (p.29)
 unfoldable pub spentPen : Pen → Pen

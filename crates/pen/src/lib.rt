@@ -1,7 +1,7 @@
 // The light pen: its three modes, its switch, arming, and what a detect and a transfer on no detect leave behind.
 use orders::PenMode;
 ghost use mathlib.Core.Path.{_≡_};
-ghost use Rattle.pen.specs.Pen.{fresh, ordered, armedBy, timed, turned, switched, detects, spentPen, seenPen, detected, transfers, transferred};
+ghost use Rattle.pen.specs.Pen.{ordered, armedBy, timed, turned, switched, detects, seenOf, spentPen, seenPen, detected, transfers, transferred};
 
 pub struct Pen {
     pub mode: PenMode,
@@ -13,19 +13,6 @@ pub struct Pen {
     pub armed: bool,
     // A detect has come in no-switch mode.
     pub seen: bool,
-}
-
-// The pen of a fresh device.
-pub fn fresh_pen() -> Pen
-    ensures { λ r. ⌜ r ≡ fresh ⌝ }
-{
-    Pen {
-        mode: PenMode::Normal,
-        closed: false,
-        spent: false,
-        armed: false,
-        seen: false,
-    }
 }
 
 // The pen after a light-pen mode order.
@@ -124,6 +111,13 @@ pub fn is_detecting(pen: Pen) -> bool
         PenMode::Disabled => false,
         PenMode::NoSwitch => true,
     }
+}
+
+// What the pen sees of a sight.
+pub fn seen_of(pen: Pen, sight: u8) -> u8
+    ensures { λ r. ⌜ r ≡ seenOf pen sight ⌝ }
+{
+    if is_detecting(pen) { sight } else { 0 }
 }
 
 // The pen after a detect.

@@ -9,8 +9,8 @@ use lib.Seq.{take-take}
 use lib.Dec.{leb, eqb}
 use borrow.Author.Tests.{leb-true, eqb-true}
 use Rattle.bytes.specs.Bytes.{indexOf}
-use Rattle.stream.specs.Stream.{heldOf, pastOf}
-use Rattle.stream.specs.declared.Window.{Window}
+use Rattle.window.specs.Window.{heldOf, pastOf}
+use Rattle.window.specs.declared.Window.{Window}
 use Rattle.readline.specs.Readline.{sizedOf, endedOf, Told, Begins}
 use Rattle.readline.specs.declared.Line.{Line}
 use Rattle.readline.specs.declared.Line.the-variants.{Whole, Long, End}

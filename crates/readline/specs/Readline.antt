@@ -6,8 +6,8 @@ use mathlib.Core.List.{List, []}
 use lib.ListN.{length, take}
 use lib.Dec.{leb, eqb}
 use Rattle.bytes.specs.Bytes.{indexOf}
-use Rattle.stream.specs.Stream.{heldOf, pastOf}
-use Rattle.stream.specs.declared.Window.{Window}
+use Rattle.window.specs.Window.{heldOf, pastOf}
+use Rattle.window.specs.declared.Window.{Window}
 use Rattle.readline.specs.declared.Line.{Line}
 use Rattle.readline.specs.declared.Line.the-variants.{Whole, Long, End}
 

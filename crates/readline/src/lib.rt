@@ -1,8 +1,8 @@
 // The lines of standard input, read through a window that the program lends.
 ghost use mathlib.Core.Path.{_≡_};
-ghost use Rattle.stream.specs.Stream.{heldOf};
+ghost use Rattle.window.specs.Window.{heldOf};
 ghost use Rattle.readline.specs.Readline.{sizedOf, endedOf, Told, Begins, Lined};
-use stream::Window;
+use window::Window;
 
 // What stands where a line was due.
 pub enum Line {
@@ -21,7 +21,7 @@ fn sized(count: usize, window: Window) -> Line
     if count <= 40000 {
         return Line::Whole(count, window);
     }
-    Line::Long(stream::past(stream::past(window, count), 1))
+    Line::Long(window::past(window::past(window, count), 1))
 }
 
 // The last line of an input that has ended.
@@ -39,15 +39,15 @@ fn swallow(buffer: &mut [u8], window: Window, most: usize) -> Window {
     let mut next = window;
     let mut turns = 0;
     while turns < most {
-        let held = stream::held(buffer, next);
+        let held = window::held(buffer, next);
         let count = held.len();
         let end = parse::index_of(b'\n', held);
-        next = stream::past(stream::past(next, end), 1);
+        next = window::past(window::past(next, end), 1);
         if end < count {
             return next;
         }
-        next = stream::fill(buffer, next, 1);
-        if stream::held(buffer, next).len() == 0 {
+        next = input::fill(buffer, next, 1);
+        if window::held(buffer, next).len() == 0 {
             return next;
         }
         turns += 1;
@@ -63,8 +63,8 @@ fn read_more(buffer: &mut [u8], window: Window, count: usize) -> Line
     let mut next = window;
     let mut had = count;
     while had <= 40000 {
-        next = stream::fill(buffer, next, had + 1);
-        let held = stream::held(buffer, next);
+        next = input::fill(buffer, next, had + 1);
+        let held = window::held(buffer, next);
         let now = held.len();
         let end = parse::index_of(b'\n', held);
         if end < now {
@@ -82,7 +82,7 @@ fn read_more(buffer: &mut [u8], window: Window, count: usize) -> Line
 pub fn read_line(buffer: &mut [u8], window: Window) -> Line
     ensures { λ r. ⌜ Lined (now (buffer .entry)) window (now (buffer .exit)) r ⌝ }
 {
-    let held = stream::held(buffer, window);
+    let held = window::held(buffer, window);
     let count = held.len();
     let end = parse::index_of(b'\n', held);
     if end < count {

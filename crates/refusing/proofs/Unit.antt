@@ -10,11 +10,12 @@ use Rattle.orders.specs.Orders.{sizeOf}
 use Rattle.refusals.specs.declared.Refusal.{Refusal}
 use Rattle.refusals.specs.declared.Refusal.the-variants.{UnknownSight}
 use Rattle.device.specs.declared.Device.{Device}
-use Rattle.device.specs.declared.Loaded.{Loaded}
-use Rattle.device.specs.declared.Answer.the-variants as loads
+use Rattle.loading.specs.declared.Loaded.{Loaded}
+use Rattle.loading.specs.declared.Answer.the-variants as loads
 use Rattle.device.specs.declared.Sized.{Sized}
 use Rattle.device.specs.declared.Sized.the-variants as sized
-use Rattle.device.specs.Device.{allProper, sizedOf, loadedBy, loadOf}
+use Rattle.device.specs.Device.{sizedOf}
+use Rattle.loading.specs.Loading.{allProper, loadedBy, loadOf}
 use Rattle.codes.specs.Codes.{classOf, allowed, sentBy}
 use Rattle.codes.specs.declared.Class.{Class}
 use Rattle.codes.specs.declared.Class.the-variants as class

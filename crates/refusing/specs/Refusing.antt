@@ -5,8 +5,8 @@ use mathlib.Core.Path.{_≡_}
 use mathlib.Core.List.{List}
 use Rattle.refusals.specs.declared.Refusal.{Refusal}
 use Rattle.device.specs.declared.Device.{Device}
-use Rattle.device.specs.declared.Answer.the-variants as loads
-use Rattle.device.specs.Device.{loadOf}
+use Rattle.loading.specs.declared.Answer.the-variants as loads
+use Rattle.loading.specs.Loading.{loadOf}
 use Rattle.commands.specs.declared.Reply.the-variants as reply
 use Rattle.commands.specs.Commands.{commandOf}
 use Rattle.run.specs.declared.Outcome.the-variants as runs

@@ -1,11 +1,9 @@
--- The lines that answer a request, but for drawn items and the unit's state.
+-- The lines that answer a request, but for what the buffer holds, drawn items and the unit's state.
 use Prim.Native.Nat.{ℕ, _+_}
 use mathlib.Core.Bool.{Bool, cond}
 use mathlib.Core.List.{List, _++_}
-use lib.ListN.{getD}
-use lib.Dec.{eqb, leb}
-use Rattle.text.specs.Text.{spelled, byteOf, wordOf}
-use Rattle.phrases.specs.Phrases.{named, marked, eachOf}
+use Rattle.text.specs.Text.{spelled}
+use Rattle.phrases.specs.Phrases.{named}
 
 abbrev pub okLine : List ℕ
 okLine = spelled "ok\n"
@@ -21,28 +19,7 @@ refusedLine n = named (spelled "refused ") n ++ spelled "\n"
 abbrev pub heardLine : Bool → List ℕ
 heardLine heard = cond heard (spelled "heard\n") (spelled "unheard\n")
 
--- the first bytes of a room, two digits each
-abbrev pub bytesText : List ℕ → ℕ → List ℕ
-bytesText room count = eachOf (λ i. byteOf (getD room i 0)) count
-
--- "and, if bytes were given, a space and the bytes"
-abbrev pub givenText : List ℕ → ℕ → List ℕ
-givenText room count = cond (eqb count 0) (spelled "\n") (spelled " " ++ bytesText room count ++ spelled "\n")
-
--- `status SS`, with the bytes that were given
-abbrev pub statusLine : ℕ → List ℕ → ℕ → List ℕ
-statusLine status room count = marked (spelled "status ") status ++ givenText room count
-
 -- `ran STEPS end WHY items N`
 abbrev pub ranLine : ℕ → ℕ → ℕ → List ℕ
 ranLine steps why items =
     named (spelled "ran ") steps ++ named (spelled " end ") why ++ named (spelled " items ") items ++ spelled "\n"
-
--- the words from an address on, four digits each
-abbrev pub wordsText : List ℕ → ℕ → ℕ → List ℕ
-wordsText words from count = eachOf (λ i. wordOf (getD words (from + i) 0)) count
-
--- `words FROM COUNT`: "COUNT from 1, not past the size"
-abbrev pub wordsLine : List ℕ → ℕ → ℕ → ℕ → List ℕ
-wordsLine words size from count =
-    cond (eqb count 0) errorLine (cond (leb (from + count) size) (wordsText words from count ++ spelled "\n") errorLine)

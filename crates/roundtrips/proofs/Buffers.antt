@@ -15,8 +15,9 @@ use Rattle.location.specs.Laws.{data-stored, good-stored}
 use Rattle.orders.specs.Orders.{sizeOf, wrapOf}
 use Rattle.orders.specs.declared.Size.{Size}
 use Rattle.orders.specs.declared.Size.the-variants.{K4, K8}
-use Rattle.buffer.specs.Buffer.{nextOf, goesOn, writtenFrom, behind, givenFrom, readFrom}
-use Rattle.buffer.specs.declared.Read.{Read}
+use Rattle.buffer.specs.Buffer.{nextOf, writtenFrom, behind}
+use Rattle.reading.specs.Reading.{goesOn, givenFrom, readFrom}
+use Rattle.reading.specs.declared.Read.{Read}
 use Rattle.roundtrips.specs.RoundTrips.{Bytes}
 
 -- the location i on from a

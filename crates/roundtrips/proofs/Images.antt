@@ -16,7 +16,8 @@ use Rattle.orders.specs.declared.Size.{Size}
 use Rattle.orders.specs.declared.Size.the-variants.{K4, K8}
 use Rattle.look.specs.Loaded.{Location, Carries}
 use Rattle.buffer.specs.Buffer.{wordsWritten, otherOf, cursorSet, cursorAt, cursorRemoved, cursorCleared, cursorInserted}
-use Rattle.device.specs.Device.{allProper, dumpWords, sizedOf, loadedBy, loadOf}
+use Rattle.device.specs.Device.{sizedOf}
+use Rattle.loading.specs.Loading.{allProper, dumpWords, loadedBy, loadOf}
 use Rattle.device.specs.declared.Sized.the-variants as sized
 use Rattle.roundtrips.specs.RoundTrips.{Bytes}
 use Rattle.roundtrips.specs.Images.{stored, dumpOf, DumpLoaded, DumpImage, CursorCarries}

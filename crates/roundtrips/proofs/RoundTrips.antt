@@ -11,8 +11,8 @@ use Rattle.location.specs.Location.{freshWord}
 use Rattle.orders.specs.Orders.{sizeOf, wrapOf}
 use Rattle.orders.specs.declared.Size.{Size}
 use Rattle.look.specs.Loaded.{Carries}
-use Rattle.buffer.specs.Buffer.{readFrom}
-use Rattle.buffer.specs.declared.Read.{Read}
+use Rattle.reading.specs.Reading.{readFrom}
+use Rattle.reading.specs.declared.Read.{Read}
 use Rattle.device.specs.declared.Device.{Device}
 use Rattle.device.specs.Device.{freshOf, withState}
 use Rattle.codes.specs.Codes.{classOf, allowed}

@@ -10,9 +10,10 @@ use Rattle.orders.specs.Orders.{sizeOf}
 use Rattle.orders.specs.declared.Size.{Size}
 use Rattle.look.specs.Loaded.{Carries}
 use Rattle.buffer.specs.Buffer.{cursorAt, cursorRemoved, cursorCleared, cursorInserted}
-use Rattle.device.specs.Device.{freshLoaded, freshOf, dumpWords, loadOf}
+use Rattle.device.specs.Device.{freshOf}
+use Rattle.loading.specs.Loading.{freshLoaded, dumpWords, loadOf}
 use Rattle.device.specs.declared.Device.{Device}
-use Rattle.device.specs.declared.Answer.the-variants as answer
+use Rattle.loading.specs.declared.Answer.the-variants as answer
 use Rattle.commands.specs.Commands.{commandOf}
 use Rattle.roundtrips.specs.RoundTrips.{Bytes, after}
 

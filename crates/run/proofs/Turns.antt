@@ -24,7 +24,9 @@ use Rattle.drawing.specs.Drawing.{strokesOf, upto, hitIn}
 use Rattle.drawing.specs.declared.Hit.{Hit}
 use Rattle.drawing.specs.declared.Hit.the-variants as hit
 use Rattle.device.specs.declared.State.{State}
-use Rattle.step.specs.Step.{lookAt, seenOf, motionAt, dataTo, hitBy, behindData, advanceOf, stillOf, movedOf, itemsMoved, itemsDrawn}
+use Rattle.pen.specs.Pen.{seenOf}
+use Rattle.step.specs.Step.{lookAt, motionAt, dataTo, hitBy, behindData, advanceWith, advanceOf, stillOf, movedOf}
+use Rattle.strokes.specs.Strokes.{itemsMoved, itemsDrawn}
 use Rattle.step.specs.declared.Stepped.{Stepped}
 use Rattle.step.specs.declared.Stepped.the-variants.{Goes, Stops}
 use Rattle.step.specs.declared.End.{End}
@@ -59,7 +61,7 @@ last h =
 -- a step of a still beam advances by its look alone and draws nothing
 module _ (s : State) (l : Look) (sight : ℕ) (e : motion.Still ≡ motionAt l s) where
   still-advance : advanceOf s l sight ≡ stillOf s l
-  unfolding advanceOf stillOf beamAfter strokesOf hitIn
+  unfolding advanceOf advanceWith stillOf beamAfter strokesOf hitIn
   still-advance = rw (← e)
 
   still-items : (words : List ℕ) → itemsDrawn words s l sight ≡ []
@@ -99,7 +101,7 @@ module _ (words out : List ℕ) (s : State) (sight items : ℕ) where
 
 -- a step that moves the beam reads data
 moved-advance : (s : State) (l : Look) (m : Motion) (sight : ℕ) → m ≡ motionAt l s → isStill m ≡ false → advanceOf s l sight ≡ movedOf s l m sight
-unfolding advanceOf movedOf motionOf
+unfolding advanceOf advanceWith movedOf motionOf
 moved-advance s (look.Fault f) m sight e t = absurd (yes m e t)
 moved-advance s (look.Check a) m sight e t = absurd (yes m e t)
 moved-advance s (look.Enter n next) m sight e t = absurd (yes m e t)

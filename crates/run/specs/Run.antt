@@ -17,7 +17,8 @@ use Rattle.step.specs.declared.End.{End}
 use Rattle.step.specs.declared.End.the-variants as end
 use Rattle.step.specs.declared.Stepped.{Stepped}
 use Rattle.step.specs.declared.Stepped.the-variants as stepped
-use Rattle.step.specs.Step.{lookAt, advanceOf, itemsDrawn}
+use Rattle.step.specs.Step.{lookAt, advanceOf}
+use Rattle.strokes.specs.Strokes.{itemsDrawn}
 use Rattle.run.specs.declared.Turn.{Turn}
 use Rattle.run.specs.declared.Turn.the-variants as turn
 use Rattle.run.specs.declared.Progress.{Progress}

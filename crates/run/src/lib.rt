@@ -10,12 +10,12 @@ use refusals::Refusal;
 use step::End;
 use step::Stepped;
 ghost use mathlib.Core.Path.{_≡_};
-ghost use mathlib.Core.Bool.{cond, _||_};
+ghost use mathlib.Core.Bool.{_||_};
 ghost use Prim.Native.Nat.{_+_, _≤_, _/_};
 ghost use lib.ListN.{length};
 ghost use Rattle.device.specs.declared.State.{State};
 ghost use Rattle.items.specs.declared.Listing.the-variants.{Next};
-ghost use Rattle.run.specs.Run.{isDone, isStill, turnBy, turnOf, outOf, progress, runFrom, outFrom, allSights, statusAfter, senseJoined, senseAfter, deviceAfter, ranBy, runOf, listOf};
+ghost use Rattle.run.specs.Run.{isDone, isStill, turnBy, turnOf, outOf, progress, runFrom, outFrom, allSights, statusAfter, senseJoined, senseAfter, ranBy, runOf, listOf};
 
 // One turn of a run: a step done and the state and items after it, the last one done, or one that is not done.
 pub enum Turn {
@@ -91,14 +91,15 @@ fn take_turn(words: &[u16; 8192], state: State, sight: u8, items: usize, out: &m
     requires { ⌜ items ≤ length (now out) / 8 ⌝ }
     ensures { λ r. ⌜ (r ≡ turnOf (now (words .entry)) state sight items (now (out .entry))) × (now (out .exit) ≡ outOf (now (words .entry)) state sight items (now (out .entry))) ⌝ }
 {
-    let look = step::look_here(words, state);
+    let size = state.size;
     let mode = state.mode;
     let beam = state.beam;
+    let look = look::look_at(words, size, state.address, mode);
     let motion = motion::motion_of(look, mode, beam);
     if is_still(motion) {
         listed_turn(step::advance_still(state, look), items)
     } else {
-        let drawn = step::draw_motion(words, state, motion, sight);
+        let drawn = strokes::draw_motion(words, state, motion, sight);
         match items::list(out, items, drawn) {
             Listing::Full => Turn::NotDone(state, End::NoRoom),
             Listing::Next(listed) => {

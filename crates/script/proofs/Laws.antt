@@ -8,9 +8,9 @@ use native.Mathlib.Numerals.{add-one}
 use lib.ListN.{length, getD, drop, length-drop}
 use lib.Seq.{drop-cons, take-all}
 use lib.ListN.{take}
-use lib.Dec.{eqb, ltb}
+use lib.Dec.{eqb}
 use borrow.Author.Tests.{ne-eqb, eq-eqb}
-use Rattle.script.specs.Script.{same, hexValue, allBelow}
+use Rattle.script.specs.Script.{same}
 
 -- texts of different lengths differ
 pub lengths-differ : (a b : List ℕ) → (length a ≡ length b → ⊥) → same a b ≡ false
@@ -32,15 +32,6 @@ module _ (a b : List ℕ) (i : ℕ) (in-a : i < length a) (in-b : i < length b) 
   pub letters-agree : getD a i 0 ≡ getD b i 0 → same (drop i a) (drop i b) ≡ same (drop (i + 1) a) (drop (i + 1) b)
   unfolding same
   letters-agree h = rw (add-one, drop-cons a i 0, drop-cons b i 0, eq-eqb (getD a i 0) (getD b i 0) h)
-
-module _ (base : ℕ) (text : List ℕ) (i : ℕ) (more : i < length text) where
-  pub no-digit : ltb (hexValue (getD text i 0)) base ≡ false → allBelow base (drop i text) ≡ false
-  unfolding allBelow
-  no-digit e = rw (drop-cons text i 0, e)
-
-  pub one-digit : ltb (hexValue (getD text i 0)) base ≡ true → allBelow base (drop i text) ≡ allBelow base (drop (i + 1) text)
-  unfolding allBelow
-  one-digit e = rw (add-one, drop-cons text i 0, e)
 
 -- all of a text behind a place
 pub to-the-end : (line : List ℕ) (from : ℕ) → take (length line - from) (drop from line) ≡ drop from line

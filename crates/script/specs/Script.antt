@@ -1,12 +1,13 @@
 -- The requests of a script: one a line, words parted by one space, numbers decimal up to five digits, bytes and words in
 -- capital hexadecimal without separators.
-use Prim.Native.Nat.{ℕ, _+_, _*_, _-_, _%_}
-use mathlib.Core.Bool.{Bool, true, false, cond, _&&_}
+use Prim.Native.Nat.{ℕ, _+_, _%_}
+use mathlib.Core.Bool.{Bool, true, false, cond}
 use mathlib.Core.List.{List, [], _∷_}
 use lib.ListN.{length, getD, take, drop}
-use lib.Dec.{ltb, leb, eqb}
+use lib.Dec.{leb, eqb}
 use Rattle.bytes.specs.Bytes.{indexOf}
 use Rattle.text.specs.Text.{spelled}
+use Rattle.digits.specs.Digits.{allBelow, byteAt}
 use Rattle.parse.specs.Parse.{numberOf}
 use Rattle.parse.specs.declared.Parsed.{Parsed}
 use Rattle.parse.specs.declared.Parsed.the-variants.{Number, Wrong}
@@ -30,16 +31,6 @@ same [] (y ∷ ys) = false
 same (x ∷ xs) [] = false
 same (x ∷ xs) (y ∷ ys) = cond (eqb x y) (same xs ys) false
 
--- a digit's value, capital letters from ten on; 16 is none
-abbrev pub hexValue : ℕ → ℕ
-hexValue byte =
-    cond (leb 48 byte && leb byte 57) (byte - 48) (cond (leb 65 byte && leb byte 70) (byte - 55) 16)
-
--- digits of a base, ten or sixteen
-unfoldable pub allBelow : ℕ → List ℕ → Bool
-allBelow base [] = true
-allBelow base (byte ∷ rest) = cond (ltb (hexValue byte) base) (allBelow base rest) false
-
 -- bytes have two digits each, words four, sights one decimal digit each; none at all is no such text
 unfoldable pub bytesText : List ℕ → Bool
 bytesText text = cond (eqb (length text) 0) false (cond (eqb (length text % 2) 0) (allBelow 16 text) false)
@@ -54,16 +45,6 @@ sightsText text = cond (eqb (length text) 0) false (allBelow 10 text)
 abbrev pub upTo : ℕ → Parsed → Parsed
 upTo most (Number n) = cond (leb n most) (Number n) Wrong
 upTo most Wrong = Wrong
-
--- the value of the digit at a place, the byte that two digits are, and the word that four are
-unfoldable pub digitAt : List ℕ → ℕ → ℕ
-digitAt text at = hexValue (getD text at 0)
-
-unfoldable pub byteAt : List ℕ → ℕ → ℕ
-byteAt text at = (16 * digitAt text at + digitAt text (at + 1)) % 256
-
-unfoldable pub wordAt : List ℕ → ℕ → ℕ
-wordAt text at = 256 * byteAt text at + byteAt text (at + 2)
 
 -- `fresh SIZE`
 abbrev pub freshBy : Parsed → Request

@@ -1,7 +1,9 @@
-// The requests of a script, line by line: what a line asks for, and the bytes, words and sights that it holds.
+// The requests of a script, line by line: what a line asks for, and what stands behind its words.
+//
+// The contracts cite `specs/Script.antt`.
 ghost use mathlib.Core.Path.{_≡_};
-ghost use Prim.Native.Nat.{_+_, _≤_, _<_};
-ghost use Rattle.script.specs.Script.{firstWord, restOf, lone as Script·lone, same as Script·same, hexValue, allBelow, bytesText, wordsText, sightsText, upTo, digitAt, byteAt, wordAt, freshBy, loadBy, loadOf, commandBy, roomOf, commandOf, runBy, runOf, wordsBy, wordsOf, codeOf, keyOf, arguedOf, plainOf, requestOf};
+ghost use Prim.Native.Nat.{_+_, _<_};
+ghost use Rattle.script.specs.Script.{firstWord, restOf, lone as Script·lone, same as Script·same, bytesText, wordsText, sightsText, upTo, freshBy, loadBy, loadOf, commandBy, roomOf, commandOf, runBy, runOf, wordsBy, wordsOf, codeOf, keyOf, arguedOf, plainOf, requestOf};
 use parse::Parsed;
 
 // What a line asks for. What follows the numbers, in `Load`, `Command` and `Run`, is found by `rest_of`.
@@ -66,39 +68,6 @@ fn same(a: &[u8], b: &[u8]) -> bool
     true
 }
 
-// The value of a hexadecimal digit, or 16.
-fn hex_value(byte: u8) -> u8
-    ensures { λ r. ⌜ (r ≡ hexValue byte) × (r ≤ 16) ⌝ }
-{
-    if byte < 48 {
-        return 16;
-    }
-    if byte <= 57 {
-        return byte - 48;
-    }
-    if byte < 65 {
-        return 16;
-    }
-    if byte <= 70 {
-        return byte - 55;
-    }
-    16
-}
-
-// Whether a text has digits of this base alone.
-fn all_below(base: u8, text: &[u8]) -> bool
-    ensures { λ r. ⌜ r ≡ allBelow base (now (text .entry)) ⌝ }
-{
-    let mut i = 0;
-    while i < text.len() {
-        if base <= hex_value(text[i]) {
-            return false;
-        }
-        i += 1;
-    }
-    true
-}
-
 // Whether a text is bytes of two digits each.
 fn is_bytes(text: &[u8]) -> bool
     ensures { λ r. ⌜ r ≡ bytesText (now (text .entry)) ⌝ }
@@ -109,7 +78,7 @@ fn is_bytes(text: &[u8]) -> bool
     if text.len() % 2 != 0 {
         return false;
     }
-    all_below(16, text)
+    digits::all_below(16, text)
 }
 
 // Whether a text is words of four digits each.
@@ -122,7 +91,7 @@ fn is_words(text: &[u8]) -> bool
     if text.len() % 4 != 0 {
         return false;
     }
-    all_below(16, text)
+    digits::all_below(16, text)
 }
 
 // Whether a text is sights of one digit each.
@@ -132,7 +101,7 @@ fn is_sights(text: &[u8]) -> bool
     if text.len() == 0 {
         return false;
     }
-    all_below(10, text)
+    digits::all_below(10, text)
 }
 
 // A number, if it is not above a bound.
@@ -201,40 +170,6 @@ fn room_of(code: u8, rest: &[u8]) -> Request
     Request::Error
 }
 
-// The value of the digit at a place, 16 where there is none.
-pub fn digit_at(text: &[u8], at: usize) -> u8
-    ensures { λ r. ⌜ (r ≡ digitAt (now (text .entry)) at) × (r ≤ 16) ⌝ }
-{
-    if at < text.len() {
-        return hex_value(text[at]);
-    }
-    16
-}
-
-// The byte that the two hexadecimal digits at a place are.
-pub fn byte_at(text: &[u8], at: usize) -> u8
-    ensures { λ r. ⌜ r ≡ byteAt (now (text .entry)) at ⌝ }
-{
-    if at < text.len() {
-        let high = digit_at(text, at) as usize;
-        let low = digit_at(text, at + 1) as usize;
-        return ((16 * high + low) % 256) as u8;
-    }
-    16
-}
-
-// The word that the four hexadecimal digits at a place are.
-pub fn word_at(text: &[u8], at: usize) -> u16
-    ensures { λ r. ⌜ r ≡ wordAt (now (text .entry)) at ⌝ }
-{
-    if at < text.len() {
-        let high = byte_at(text, at) as u16;
-        let low = byte_at(text, at + 2) as u16;
-        return 256 * high + low;
-    }
-    4112
-}
-
 // What stands behind `command`.
 fn command_of(rest: &[u8]) -> Request
     ensures { λ r. ⌜ r ≡ commandOf (now (rest .entry)) ⌝ }
@@ -243,8 +178,8 @@ fn command_of(rest: &[u8]) -> Request
     if code.len() != 2 {
         return Request::Error;
     }
-    if all_below(16, code) {
-        return room_of(byte_at(code, 0), rest_of(rest));
+    if digits::all_below(16, code) {
+        return room_of(digits::byte_at(code, 0), rest_of(rest));
     }
     Request::Error
 }
@@ -300,8 +235,8 @@ fn code_of(rest: &[u8]) -> Request
     if rest.len() != 2 {
         return Request::Error;
     }
-    if all_below(16, rest) {
-        return Request::Key(byte_at(rest, 0) as u16);
+    if digits::all_below(16, rest) {
+        return Request::Key(digits::byte_at(rest, 0) as u16);
     }
     Request::Error
 }

@@ -162,7 +162,7 @@ fn expand(
     requires { ⌜ Ready (planOf (now image) setup 0) (now store) rest t p ⌝ }
     ensures { λ r. ⌜ ((start : ℕ) → start < placesOf (setup .size) → Outcome (planOf (now (image .entry)) setup start) p (now (store .entry)) (now (store .exit)) side rest t r) ⌝ }
 {
-    match places::way_at(image, setup, p) {
+    match ways::way_at(image, setup, p) {
         Way::Faulty(n) => Expanded::Blame(n),
         Way::Stops => Expanded::Grew(t),
         Way::To(q) => Expanded::Grew(visit(store, setup, side, rest, t, q)),

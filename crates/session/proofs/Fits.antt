@@ -10,7 +10,8 @@ use Rattle.text.specs.Text.{spelled}
 use Rattle.parse.specs.Parse.{numberOf}
 use Rattle.parse.specs.declared.Parsed.{Parsed}
 use Rattle.parse.specs.declared.Parsed.the-variants.{Number, Wrong}
-use Rattle.script.specs.Script.{firstWord, restOf, lone, same, allBelow, bytesText, wordsText, sightsText, upTo, byteAt, freshBy, loadBy, loadOf, commandBy, roomOf, commandOf, runBy, runOf, wordsBy, wordsOf, codeOf, keyOf, arguedOf, plainOf, requestOf}
+use Rattle.script.specs.Script.{firstWord, restOf, lone, same, bytesText, wordsText, sightsText, upTo, freshBy, loadBy, loadOf, commandBy, roomOf, commandOf, runBy, runOf, wordsBy, wordsOf, codeOf, keyOf, arguedOf, plainOf, requestOf}
+use Rattle.digits.specs.Digits.{allBelow, byteAt}
 use Rattle.script.specs.declared.Request.{Request}
 use Rattle.session.specs.Session.{Fits}
 

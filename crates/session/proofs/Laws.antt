@@ -16,7 +16,7 @@ use Rattle.pictures.specs.Pictures.{itemsText}
 use Rattle.run.specs.declared.Ran.{Ran}
 use Rattle.run.specs.declared.Outcome.{Outcome}
 use Rattle.run.specs.declared.Outcome.the-variants.{Done}
-use Rattle.device.specs.Device.{loadOf}
+use Rattle.loading.specs.Loading.{loadOf}
 use Rattle.script.specs.Script.{restOf, requestOf}
 use Rattle.commands.specs.Commands.{commandOf}
 use Rattle.decode.specs.Decode.{bytesIn, sightsIn}

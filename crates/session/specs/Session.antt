@@ -10,16 +10,18 @@ use Rattle.refusals.specs.Refusals.{refusalNumber}
 use Rattle.refusals.specs.declared.Refusal.{Refusal}
 use Rattle.orders.specs.Orders.{sizeOf}
 use Rattle.step.specs.Step.{endNumber}
-use Rattle.replies.specs.Replies.{okLine, errorLine, refusedLine, heardLine, statusLine, ranLine, wordsLine}
+use Rattle.replies.specs.Replies.{okLine, errorLine, refusedLine, heardLine, ranLine}
+use Rattle.contents.specs.Contents.{statusLine, wordsLine}
 use Rattle.pictures.specs.Pictures.{itemsText}
 use Rattle.conditions.specs.Conditions.{stateLine}
-use Rattle.device.specs.Device.{freshOf, sizedOf, loadOf, switchedOf, anyCursor}
+use Rattle.device.specs.Device.{freshOf, sizedOf, switchedOf, anyCursor}
+use Rattle.loading.specs.Loading.{loadOf}
 use Rattle.device.specs.declared.Device.{Device}
 use Rattle.device.specs.declared.Sized.{Sized}
 use Rattle.device.specs.declared.Sized.the-variants as sized
-use Rattle.device.specs.declared.Answer.{Answer}
-use Rattle.device.specs.declared.Answer.the-variants as answer
-use Rattle.device.specs.declared.Loaded.{Loaded}
+use Rattle.loading.specs.declared.Answer.{Answer}
+use Rattle.loading.specs.declared.Answer.the-variants as answer
+use Rattle.loading.specs.declared.Loaded.{Loaded}
 use Rattle.commands.specs.Commands.{Outcome, commandOf}
 use Rattle.commands.specs.declared.Reply.{Reply}
 use Rattle.commands.specs.declared.Reply.the-variants as reply

@@ -2,12 +2,12 @@
 //
 // The contracts cite `specs/Session.antt`.
 use commands::Reply;
-use device::Answer;
 use device::Device;
-use device::Loaded;
 use device::Sized;
 use keys::KeyReply;
 use keys::Keyed;
+use loading::Answer;
+use loading::Loaded;
 use refusals::Refusal;
 use run::Outcome;
 use run::Ran;
@@ -16,7 +16,7 @@ ghost use mathlib.Core.List.{[]};
 ghost use Prim.Native.Nat.{_*_, _≤_};
 ghost use lib.ListN.{length, replicate};
 ghost use Rattle.replies.specs.Replies.{okLine, errorLine};
-ghost use Rattle.device.specs.Device.{loadOf};
+ghost use Rattle.loading.specs.Loading.{loadOf};
 ghost use Rattle.commands.specs.Commands.{commandOf};
 ghost use Rattle.decode.specs.Decode.{bytesIn, wordsIn, sightsIn};
 ghost use Rattle.session.specs.Session.{said, refusedSaid, freshSaid, loadSaid, replySaid, commandSaid, ranSaid, runSaid, keySaid, stateSaid, cursorSaid, wordsSaid, bytesOf, dumpOf, sightsOf, Fits, saidBy, saidOf, Speaks};
@@ -94,7 +94,7 @@ fn load_through(
     ensures { λ r. ⌜ Speaks (loadSaid (loadOf device size (wordsIn (now (text .entry)) (length (now (dump .entry)))))) (now (lines .entry)) at (now (lines .exit)) r ⌝ }
 {
     decode::read_words(text, dump);
-    loaded_by(device::load(device, size, dump), lines, at)
+    loaded_by(loading::load(device, size, dump), lines, at)
 }
 
 // Loads the words of a text.
@@ -113,7 +113,7 @@ fn replied(device: Device, reply: Reply, room: &[u8], lines: &mut [u8], at: usiz
 {
     match reply {
         Reply::Status(status, count) => {
-            let end = replies::put_status(lines, at, status, room, count);
+            let end = contents::put_status(lines, at, status, room, count);
             Told { device, end }
         }
         Reply::Refused(refusal) => refused(device, refusal, lines, at),
@@ -261,7 +261,7 @@ fn show_words(device: Device, from: usize, count: usize, lines: &mut [u8], at: u
 {
     let state = device.state;
     let size = state.size;
-    let end = replies::put_words(lines, at, &device.words, size, from, count);
+    let end = contents::put_words(lines, at, &device.words, size, from, count);
     Told { device, end }
 }
 

@@ -1,23 +1,19 @@
--- One step of a unit that runs (01, "One step of regeneration" and "The pen"): how it moves the state, and what it draws.
+-- One step of a unit that runs (01, "One step of regeneration" and "The pen"): how it moves the state.
 use Prim.Native.Nat.{ℕ}
-use mathlib.Core.Bool.{Bool, true, false, cond}
+use mathlib.Core.Bool.{Bool, false, cond}
 use mathlib.Core.List.{List}
-use lib.ListN.{getD}
-use Rattle.location.specs.Location.{cursorOf}
-use Rattle.orders.specs.Orders.{wrapOf}
 use Rattle.orders.specs.declared.Mode.{Mode}
 use Rattle.orders.specs.declared.Mode.the-variants.{Idle}
-use Rattle.groups.specs.Groups.{aheadOf, wordsGroup}
+use Rattle.groups.specs.Groups.{wordsGroup}
 use Rattle.look.specs.Look.{faultNumber, lookOf}
 use Rattle.look.specs.declared.Look.{Look}
 use Rattle.look.specs.declared.Look.the-variants as look
 use Rattle.beam.specs.declared.Beam.{Beam}
-use Rattle.pen.specs.Pen.{ordered, timed, detects, detected, transfers, transferred}
+use Rattle.pen.specs.Pen.{ordered, timed, seenOf, detected, transfers, transferred}
 use Rattle.pen.specs.declared.Pen.{Pen}
 use Rattle.motion.specs.Motion.{motionOf, beamAfter}
 use Rattle.motion.specs.declared.Motion.{Motion}
-use Rattle.items.specs.declared.Item.{Item}
-use Rattle.drawing.specs.Drawing.{Stroke, strokesOf, upto, hitIn}
+use Rattle.drawing.specs.Drawing.{strokesOf, hitIn}
 use Rattle.drawing.specs.declared.Hit.{Hit}
 use Rattle.drawing.specs.declared.Hit.the-variants as hit
 use Rattle.device.specs.declared.State.{State}
@@ -39,10 +35,6 @@ endNumber end.NotRunning = 10
 -- the look at the place of a state
 abbrev pub lookAt : List ℕ → State → Look
 lookAt words s = lookOf (wordsGroup words (s .size)) (s .size) (s .address) (s .mode)
-
--- "A detect needs armed normal mode, or no-switch mode": else nothing is seen
-unfoldable pub seenOf : Pen → ℕ → ℕ
-seenOf pen sight = cond (detects pen) sight 0
 
 -- the motion of a look from a state
 abbrev pub motionAt : Look → State → Motion
@@ -73,10 +65,6 @@ abbrev pub dataTo : State → Beam → ℕ → Hit → Stepped
 dataTo s b next hit.Missed = stepped.Goes (beamed s next b)
 dataTo s b next (hit.At a e) = stepped.Stops (struck s a e) end.Detect
 
--- with the beam where the motion leaves it
-abbrev pub dataBy : State → Motion → ℕ → Hit → Stepped
-dataBy s m next h = dataTo s (beamAfter m (s .beam)) next h
-
 -- a Transfer On No Detect, by whether it goes
 abbrev pub eitherBy : State → ℕ → ℕ → Bool → Stepped
 eitherBy s target next goes =
@@ -97,19 +85,17 @@ advanceTo s b h (look.Either target next) = eitherBy s target next (transfers (s
 advanceTo s b h (look.Two x y next) = dataTo s b next h
 advanceTo s b h (look.Four x₁ x₂ y₁ y₂ next) = dataTo s b next h
 
-abbrev pub advanceBy : State → Hit → Look → Stepped
-advanceBy s h l = advanceTo s (beamAfter (motionAt l s) (s .beam)) h l
-
 -- the item that what is seen falls on, by the motion
 abbrev pub hitBy : State → Motion → ℕ → Hit
 hitBy s m seen = hitIn seen (strokesOf m (s .beam) false false (s .size) (s .address))
 
-abbrev pub hitAt : State → Look → ℕ → Hit
-hitAt s l seen = hitBy s (motionAt l s) seen
+-- advancing by a look and its motion: the state after a step with a sight
+unfoldable pub advanceWith : State → Look → Motion → ℕ → Stepped
+advanceWith s l m sight = advanceTo s (beamAfter m (s .beam)) (hitBy s m (seenOf (s .pen) sight)) l
 
 -- advancing: the state after a step with a sight
 unfoldable pub advanceOf : State → Look → ℕ → Stepped
-advanceOf s l sight = advanceBy s (hitAt s l (seenOf (s .pen) sight)) l
+advanceOf s l sight = advanceWith s l (motionAt l s) sight
 
 -- advancing by a step that leaves the beam where it stands, so that no sight falls on it
 unfoldable pub stillOf : State → Look → Stepped
@@ -131,19 +117,4 @@ behindData (look.Four x₁ x₂ y₁ y₂ next) = next
 
 -- advancing over data, by their motion
 unfoldable pub movedOf : State → Look → Motion → ℕ → Stepped
-movedOf s l m sight = dataBy s m (behindData l) (hitBy s m (seenOf (s .pen) sight))
-
--- the cursor bits of A and A+1
-abbrev pub cursorHere : List ℕ → State → Bool
-cursorHere words s = cursorOf (getD words (wrapOf (s .size) (s .address)) 0)
-
-abbrev pub cursorNext : List ℕ → State → Bool
-cursorNext words s = cursorOf (getD words (aheadOf (s .size) (s .address) 1) 0)
-
--- listing: what a step with a sight draws, up to the item that a detect falls on, by its motion
-unfoldable pub itemsMoved : List ℕ → State → Motion → ℕ → List Item
-itemsMoved words s m sight =
-    upto (seenOf (s .pen) sight) (strokesOf m (s .beam) (cursorHere words s) (cursorNext words s) (s .size) (s .address))
-
-unfoldable pub itemsDrawn : List ℕ → State → Look → ℕ → List Item
-itemsDrawn words s l sight = itemsMoved words s (motionAt l s) sight
+movedOf s l m sight = dataTo s (beamAfter m (s .beam)) (behindData l) (hitBy s m (seenOf (s .pen) sight))

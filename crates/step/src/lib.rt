@@ -1,10 +1,9 @@
-// One step of a unit that runs: advancing its state and listing what is drawn, each by a call of its own.
+// One step of a unit that runs: advancing its state. What it draws is listed by a call of its own (crate `strokes`).
 //
 // The contracts cite `specs/Step.antt`.
 use beam::Beam;
 use device::State;
 use drawing::Hit;
-use items::Drawn;
 use look::Fault;
 use look::Look;
 use motion::Motion;
@@ -12,8 +11,7 @@ use orders::Mode;
 use pen::Pen;
 ghost use mathlib.Core.Path.{_≡_};
 ghost use Prim.Native.Nat.{_<_};
-ghost use Rattle.items.specs.Items.{itemsOf};
-ghost use Rattle.step.specs.Step.{endNumber, lookAt, seenOf, at, penned, beamed, stopped, struck, dataTo, eitherBy, advanceTo, hitBy, behindData, advanceOf, stillOf, movedOf, cursorHere, cursorNext, itemsMoved};
+ghost use Rattle.step.specs.Step.{endNumber, at, penned, beamed, stopped, struck, dataTo, eitherBy, advanceTo, hitBy, advanceWith, stillOf, behindData, movedOf};
 
 // Why a run ends.
 pub enum End {
@@ -52,13 +50,6 @@ pub fn end_number(end: End) -> u8
         End::NoRoom => 9,
         End::NotRunning => 10,
     }
-}
-
-// What the pen sees of a sight.
-fn seen_of(pen: Pen, sight: u8) -> u8
-    ensures { λ r. ⌜ r ≡ seenOf pen sight ⌝ }
-{
-    if pen::is_detecting(pen) { sight } else { 0 }
 }
 
 // The state at another address and mode.
@@ -147,7 +138,7 @@ fn either_by(state: State, target: usize, next: usize, goes: bool) -> Stepped
 }
 
 // What a look makes of the state: a hit, or the beam where its data leave it.
-fn advance_by(state: State, to: Beam, hit: Hit, look: Look) -> Stepped
+fn advance_to(state: State, to: Beam, hit: Hit, look: Look) -> Stepped
     ensures { λ r. ⌜ r ≡ advanceTo state to hit look ⌝ }
 {
     let mode = state.mode;
@@ -197,25 +188,14 @@ fn behind(look: Look) -> usize
     }
 }
 
-// The look at the place of a state.
-pub fn look_here(words: &[u16; 8192], state: State) -> Look
-    ensures { λ r. ⌜ r ≡ lookAt (now (words .entry)) state ⌝ }
+// Advances the state by a step: its look, the motion of that, and what the pen is shown.
+pub fn advance(state: State, look: Look, motion: Motion, sight: u8) -> Stepped
+    ensures { λ r. ⌜ r ≡ advanceWith state look motion sight ⌝ }
 {
-    let size = state.size;
-    let mode = state.mode;
-    look::look_at(words, size, state.address, mode)
-}
-
-// Advances the state by a step: its look, and what the pen is shown.
-pub fn advance(state: State, look: Look, sight: u8) -> Stepped
-    ensures { λ r. ⌜ r ≡ advanceOf state look sight ⌝ }
-{
-    let mode = state.mode;
     let beam = state.beam;
     let pen = state.pen;
-    let motion = motion::motion_of(look, mode, beam);
-    let hit = hit_at(state, motion, seen_of(pen, sight));
-    advance_by(state, motion::beam_after(motion, beam), hit, look)
+    let hit = hit_at(state, motion, pen::seen_of(pen, sight));
+    advance_to(state, motion::beam_after(motion, beam), hit, look)
 }
 
 // Advances the state by a step that leaves the beam where it stands.
@@ -223,7 +203,7 @@ pub fn advance_still(state: State, look: Look) -> Stepped
     ensures { λ r. ⌜ r ≡ stillOf state look ⌝ }
 {
     let beam = state.beam;
-    advance_by(state, beam, Hit::Missed, look)
+    advance_to(state, beam, Hit::Missed, look)
 }
 
 // Advances the state over the data of a look, by their motion and what the pen is shown.
@@ -232,43 +212,6 @@ pub fn advance_moved(state: State, look: Look, motion: Motion, sight: u8) -> Ste
 {
     let beam = state.beam;
     let pen = state.pen;
-    let hit = hit_at(state, motion, seen_of(pen, sight));
+    let hit = hit_at(state, motion, pen::seen_of(pen, sight));
     data_by(state, motion::beam_after(motion, beam), behind(look), hit)
-}
-
-// The cursor bit at a state's address.
-fn cursor_here(words: &[u16; 8192], state: State) -> bool
-    ensures { λ r. ⌜ r ≡ cursorHere (now (words .entry)) state ⌝ }
-{
-    let size = state.size;
-    let a = orders::wrap(size, state.address);
-    location::cursor_of(words[a])
-}
-
-// The cursor bit behind a state's address.
-fn cursor_next(words: &[u16; 8192], state: State) -> bool
-    ensures { λ r. ⌜ r ≡ cursorNext (now (words .entry)) state ⌝ }
-{
-    let size = state.size;
-    let here = orders::wrap(size, state.address);
-    let a = orders::wrap(size, here + 1);
-    location::cursor_of(words[a])
-}
-
-// Lists what a step draws: its motion, and what the pen is shown.
-pub fn draw_motion(words: &[u16; 8192], state: State, motion: Motion, sight: u8) -> Drawn
-    ensures { λ r. ⌜ itemsOf r ≡ itemsMoved (now (words .entry)) state motion sight ⌝ }
-{
-    let beam = state.beam;
-    let size = state.size;
-    let pen = state.pen;
-    drawing::drawn_of(
-        motion,
-        beam,
-        cursor_here(words, state),
-        cursor_next(words, state),
-        size,
-        state.address,
-        seen_of(pen, sight),
-    )
 }

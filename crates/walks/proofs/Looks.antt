@@ -8,7 +8,8 @@ use native.Mathlib.Omega.{arith}
 use lib.ListN.{length, getD}
 use lib.Dec.{eqb, ltb}
 use borrow.Author.Tests.{eqb-true, eqb-false, ltb-true}
-use Rattle.orders.specs.Orders.{sizeOf, wrapOf, orderOf, findIn, table}
+use Rattle.orders.specs.Orders.{sizeOf, wrapOf}
+use Rattle.rows.specs.Rows.{orderOf, findIn, table}
 use Rattle.orders.specs.declared.Size.{Size}
 use Rattle.orders.specs.declared.Size.the-variants.{K4, K8}
 use Rattle.orders.specs.declared.Mode.{Mode}

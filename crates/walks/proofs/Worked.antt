@@ -6,7 +6,7 @@ use Prim.Native.Nat.{ℕ, zero, suc, _≤_, _<_}
 use native.Mathlib.Nat.{not-suc-le-zero, le-of-suc-le-suc, eq-or-lt-of-le}
 use native.Mathlib.Omega.{arith}
 use native.Mathlib.Decide.{ℕ-discrete}
-use Rattle.orders.specs.Orders.{orderOf, findIn, table}
+use Rattle.rows.specs.Rows.{orderOf, findIn, table}
 use Rattle.orders.specs.declared.Size.{Size}
 use Rattle.orders.specs.declared.Size.the-variants.{K4, K8}
 use Rattle.orders.specs.declared.Mode.the-variants.{Idle, Vector}

@@ -18,9 +18,10 @@ use Rattle.device.specs.declared.Sense.{Sense}
 use Rattle.device.specs.declared.Device.{Device}
 use Rattle.device.specs.declared.Sized.{Sized}
 use Rattle.device.specs.declared.Sized.the-variants as sized
-use Rattle.device.specs.declared.Answer.the-variants as answer
+use Rattle.loading.specs.declared.Answer.the-variants as answer
 use Rattle.counts.specs.Laws.{none-counted}
-use Rattle.device.specs.Device.{freshWith, freshOf, sizedOf, allProper, dumpWords, freshLoaded, refusedBy, loadedBy, loadOf, withState, switchedOf, anyCursor}
+use Rattle.device.specs.Device.{freshWith, freshOf, sizedOf, withState, switchedOf, anyCursor}
+use Rattle.loading.specs.Loading.{allProper, dumpWords, freshLoaded, refusedBy, loadedBy, loadOf}
 use Rattle.codes.specs.Codes.{addressIn, classOf, allowed, sentBy}
 use Rattle.codes.specs.declared.Class.{Class}
 use Rattle.codes.specs.declared.Class.the-variants as class

@@ -12,7 +12,8 @@ use Rattle.orders.specs.Orders.{sizeOf, wrapOf}
 use Rattle.orders.specs.declared.Size.{Size}
 use Rattle.counts.specs.Counts.{cursorsIn}
 use Rattle.counts.specs.Laws.{none-set, none-counted}
-use Rattle.buffer.specs.Buffer.{nextOf, givenFrom, readFrom}
+use Rattle.buffer.specs.Buffer.{nextOf}
+use Rattle.reading.specs.Reading.{givenFrom, readFrom}
 use Rattle.device.specs.declared.Device.{Device}
 use Rattle.device.specs.Device.{anyCursor}
 use Rattle.commands.specs.Commands.{outcome, readEnded, readBy}

@@ -8,7 +8,8 @@ use lib.Dec.{eqb, ltb}
 use lib.ListN.{getD}
 use borrow.Author.Tests.{ltb-true}
 use Rattle.location.specs.Location.{writtenOf, goodOf}
-use Rattle.orders.specs.Orders.{sizeOf, wrapOf, orderOf}
+use Rattle.orders.specs.Orders.{sizeOf, wrapOf}
+use Rattle.rows.specs.Rows.{orderOf}
 use Rattle.orders.specs.declared.Size.{Size}
 use Rattle.orders.specs.declared.Mode.{Mode}
 use Rattle.orders.specs.declared.Mode.the-variants as mode

@@ -8,7 +8,8 @@ use Rattle.look.specs.declared.Look.{Look}
 use Rattle.look.specs.declared.Look.the-variants as look
 use Rattle.orders.specs.Orders.{sizeOf}
 use Rattle.orders.specs.declared.Mode.{Mode}
-use Rattle.pen.specs.Pen.{transfers}
+use Rattle.motion.specs.Motion.{beamAfter}
+use Rattle.pen.specs.Pen.{seenOf, transfers}
 use Rattle.pen.specs.declared.Pen.{Pen}
 use Rattle.items.specs.Items.{listing}
 use Rattle.items.specs.declared.Listing.{Listing}
@@ -19,7 +20,8 @@ use Rattle.drawing.specs.declared.Hit.the-variants.{Missed, At}
 use Rattle.device.specs.declared.State.{State}
 use Rattle.step.specs.declared.Stepped.{Stepped}
 use Rattle.step.specs.declared.Stepped.the-variants as stepped
-use Rattle.step.specs.Step.{lookAt, motionAt, seenOf, dataBy, advanceBy, hitAt, advanceOf, itemsDrawn}
+use Rattle.step.specs.Step.{lookAt, motionAt, dataTo, advanceTo, hitBy, advanceWith, advanceOf}
+use Rattle.strokes.specs.Strokes.{itemsDrawn}
 use Rattle.run.specs.declared.Turn.{Turn}
 use Rattle.run.specs.declared.Turn.the-variants as turn
 use Rattle.run.specs.declared.Progress.{Progress}
@@ -44,12 +46,12 @@ module _ (s : State) (m : StateMade s) where
   moved : {a : ℕ} {mode : Mode} {running : Bool} {pen : Pen} → a < sizeOf (s .size) → Onward s (record { size = s .size; address = a; mode = mode; running = running; beam = s .beam; pen = pen })
   moved h = record { same = refl; made = record { address = h; beam = m .beam } }
 
-  data-made : (l : Look) (next : ℕ) (h : Hit) → LookMade (s .size) l → next < sizeOf (s .size) → HitMade (s .size) h → SteppedMade s (dataBy s (motionAt l s) next h)
+  data-made : (l : Look) (next : ℕ) (h : Hit) → LookMade (s .size) l → next < sizeOf (s .size) → HitMade (s .size) h → SteppedMade s (dataTo s (beamAfter (motionAt l s) (s .beam)) next h)
   data-made l next Missed k n h =
       record { same = refl; made = record { address = n; beam = beam-after-made (motionAt l s) (s .beam) (motion-made (s .size) l (s .mode) (s .beam) k) (m .beam) } }
   data-made l next (At a b) k n h = record { same = refl; made = record { address = h .0; beam = h .1 } }
 
-  advance-by : (h : Hit) (l : Look) → HitMade (s .size) h → LookMade (s .size) l → SteppedMade s (advanceBy s h l)
+  advance-by : (h : Hit) (l : Look) → HitMade (s .size) h → LookMade (s .size) l → SteppedMade s (advanceTo s (beamAfter (motionAt l s) (s .beam)) h l)
   advance-by h (look.Fault f) k l = moved (m .address)
   advance-by h (look.Check a) k l = moved l
   advance-by h (look.Enter n next) k l = moved l
@@ -65,9 +67,9 @@ module _ (s : State) (m : StateMade s) where
   advance-by h (look.Four a b c d next) k l = data-made (look.Four a b c d next) next h l (l .2) k
 
   pub advance-made : (l : Look) (sight : ℕ) → LookMade (s .size) l → SteppedMade s (advanceOf s l sight)
-  unfolding advanceOf
+  unfolding advanceOf advanceWith
   advance-made l sight k =
-      advance-by (hitAt s l (seenOf (s .pen) sight)) l
+      advance-by (hitBy s (motionAt l s) (seenOf (s .pen) sight)) l
       (hit-made (s .size) (seenOf (s .pen) sight) (strokesOf (motionAt l s) (s .beam) false false (s .size) (s .address))
       (strokes-made (s .size) (motionAt l s) (s .beam) false false (s .address) (motion-made (s .size) l (s .mode) (s .beam) k) (m .beam)))
       k

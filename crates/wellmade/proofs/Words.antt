@@ -13,9 +13,10 @@ use Rattle.location.specs.Laws.{proper-stored}
 use Rattle.orders.specs.Orders.{sizeOf, wrapOf}
 use Rattle.orders.specs.declared.Size.{Size}
 use Rattle.orders.specs.declared.Size.the-variants.{K4, K8}
-use Rattle.buffer.specs.Buffer.{nextOf, writtenFrom, behind, goesOn, readFrom, otherOf, cursorSet, cursorAt, cursorRemoved, cursorCleared, cursorInserted}
-use Rattle.buffer.specs.declared.Read.{Read}
-use Rattle.device.specs.Device.{allProper, dumpWords}
+use Rattle.buffer.specs.Buffer.{nextOf, writtenFrom, behind, otherOf, cursorSet, cursorAt, cursorRemoved, cursorCleared, cursorInserted}
+use Rattle.reading.specs.Reading.{goesOn, readFrom}
+use Rattle.reading.specs.declared.Read.{Read}
+use Rattle.loading.specs.Loading.{allProper, dumpWords}
 use Rattle.keys.specs.Keys.{cursorMoved, characterStored}
 use Rattle.roundtrips.specs.RoundTrips.{Bytes}
 use Rattle.roundtrips.proofs.Buffers.{either-way, stored-location, inside, at-most}

@@ -4,7 +4,8 @@ use mathlib.Core.Bool.{Bool}
 use mathlib.Core.List.{List}
 use Rattle.orders.specs.declared.Size.{Size}
 use Rattle.device.specs.declared.Device.{Device}
-use Rattle.device.specs.Device.{freshOf, loadOf, switchedOf}
+use Rattle.device.specs.Device.{freshOf, switchedOf}
+use Rattle.loading.specs.Loading.{loadOf}
 use Rattle.commands.specs.Commands.{commandOf}
 use Rattle.run.specs.Run.{runOf}
 use Rattle.keys.specs.Keys.{keyOf}

@@ -5,7 +5,7 @@ use Prim.Native.Nat.{_-_, _≤_, _*_}
 use lib.ListN.{length, take}
 use lib.Seq.{take-all}
 use denote.Ref.{now}
-use Rattle.script.specs.Script.{byteAt}
+use Rattle.digits.specs.Digits.{byteAt}
 use Rattle.decode.specs.Decode.{listed}
 use Rattle.decode.proofs.Laws.{none-read, one-more-read}
 use Rattle.decode.proofs.read_bytes.Statement.{statement}

@@ -1,6 +1,6 @@
 use mathlib.Core.Path.{sym, ap, _∙_}
-use Rattle.stream.specs.Stream.{pastOf}
-use Rattle.stream.specs.declared.Window.{Window}
+use Rattle.window.specs.Window.{pastOf}
+use Rattle.window.specs.declared.Window.{Window}
 use Rattle.dialogue.specs.Dialogue.{windowBehind}
 use borrow.Author.Needs.{needs}
 use Rattle.dialogue.proofs.window_behind.Statement.{statement}

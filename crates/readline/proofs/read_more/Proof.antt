@@ -5,7 +5,7 @@ use Prim.Native.Nat.{ℕ, _-_, _≤_}
 use lib.ListN.{length, take}
 use lib.Seq.{take-length}
 use Rattle.bytes.specs.Bytes.{indexOf}
-use Rattle.stream.specs.Stream.{heldOf}
+use Rattle.window.specs.Window.{heldOf}
 use Rattle.readline.proofs.Laws.{sized-told, ended-told, front-of-front, sized-begins, ended-begins}
 use Rattle.readline.proofs.read_more.Statement.{statement}
 use Rattle.readline.proofs.read_more.Tie as tie

@@ -1,7 +1,7 @@
 use borrow.Author.Needs.{needs}
 use mathlib.Core.Path.{ap, _∙_}
-use Rattle.stream.specs.Stream.{pastOf}
-use Rattle.stream.specs.declared.Window.{Window}
+use Rattle.window.specs.Window.{pastOf}
+use Rattle.window.specs.declared.Window.{Window}
 use Rattle.readline.specs.declared.Line.the-variants.{Long}
 use borrow.Author.Tests.{le-leb, lt-leb}
 use Rattle.readline.proofs.sized.Statement.{statement}

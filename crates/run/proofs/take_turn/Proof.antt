@@ -4,8 +4,8 @@ use borrow.Author.Needs.{needs}
 use Rattle.run.proofs.take_turn.Statement.{statement}
 use Rattle.run.proofs.take_turn.Tie as tie
 
-look-here-requires : tie.Need-look-here-requires
-look-here-requires c κs = search needs
+look-at-requires : tie.Need-look-at-requires
+look-at-requires c κs = search needs
 
 motion-of-requires : tie.Need-motion-of-requires
 motion-of-requires c κs = search needs
@@ -40,7 +40,7 @@ listed-turn-requires-2 c κs = search needs
 returns : tie.Need-returns
 returns c =
     let st = c .before .before .before .before .before .before .before .before in
-    let l = c .before .before .before .before .before .before .look-here .ensures in
+    let l = c .before .before .before .before .before .look-at .ensures in
     let m = c .before .before .before .before .motion-of in
     let k = still-turn (st .args .words .now) (st .args .out .now) (st .args .state) (st .args .sight) (st .args .items) (m .result) (simp l at (m .ensures)) (sym (c .before .before .before .is-still .ensures) ∙ c .before .before .if1 .taken) (st .pre) in
     ((simp (c .before .advance-still .ensures, l) at (c .listed-turn .ensures (st .args .state))) ∙ sym (k .0), sym (k .1))
@@ -51,7 +51,7 @@ same-length c = search needs
 returns-2 : tie.Need-returns-2
 returns-2 c =
     let st = c .before .before .before .before .before .before .before .before .before .before .before .before .before in
-    let l = c .before .before .before .before .before .before .before .before .before .before .before .look-here .ensures in
+    let l = c .before .before .before .before .before .before .before .before .before .before .look-at .ensures in
     let m = c .before .before .before .before .before .before .before .before .before .motion-of in
     let e = simp l at (m .ensures) in
     let n = sym (c .before .before .before .before .before .before .before .before .is-still .ensures) ∙ c .before .before .before .before .before .before .before .if1 .left in
@@ -68,7 +68,7 @@ same-length-2 c = search needs
 returns-3 : tie.Need-returns-3
 returns-3 c =
     let st = c .before .before .before .before .before .before .before .before .before .before .before .before .before .before .before .before in
-    let l = c .before .before .before .before .before .before .before .before .before .before .before .before .before .before .look-here .ensures in
+    let l = c .before .before .before .before .before .before .before .before .before .before .before .before .before .look-at .ensures in
     let m = c .before .before .before .before .before .before .before .before .before .before .before .before .motion-of in
     let e = simp l at (m .ensures) in
     let n = sym (c .before .before .before .before .before .before .before .before .before .before .before .is-still .ensures) ∙ c .before .before .before .before .before .before .before .before .before .before .if1 .left in
@@ -83,7 +83,7 @@ pub take-turn-spec : {M : Type 1} → statement M
 take-turn-spec =
     tie.close
     (tie.spec
-    look-here-requires
+    look-at-requires
     motion-of-requires
     is-still-requires
     advance-still-requires

@@ -3,7 +3,7 @@ use Prim.Native.Nat.{ℕ, _/_}
 use native.Mathlib.Omega.{arith}
 use lib.ListN.{length}
 use denote.Ref.{now}
-use Rattle.device.specs.Device.{loadOf}
+use Rattle.loading.specs.Loading.{loadOf}
 use Rattle.decode.specs.Decode.{wordsIn}
 use Rattle.session.specs.Session.{loadSaid}
 use Rattle.session.proofs.Laws.{speaks-as, part-length}

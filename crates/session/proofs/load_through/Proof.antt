@@ -1,5 +1,5 @@
 use mathlib.Core.Path.{ap, _∙_}
-use Rattle.device.specs.Device.{loadOf}
+use Rattle.loading.specs.Loading.{loadOf}
 use Rattle.session.specs.Session.{loadSaid}
 use Rattle.session.proofs.Laws.{speaks-as}
 use borrow.Author.Needs.{needs}
