@@ -3,24 +3,21 @@
 use mathlib.Core.Bool.{Bool}
 use mathlib.Core.List.{List, [], _∷_}
 use Prim.Native.Nat.{ℕ, _+_, _*_, _/_, _%_}
-use Rattle.orders.specs.declared.Size.the-variants.{K4}
-use Rattle.refusals.specs.Refusals.{refusalNumber}
-use Rattle.packed.specs.Packed.{refusedNumber}
-use Rattle.device.specs.Device.{freshOf, switchedOf}
-use Rattle.loading.specs.Loading.{loadOf}
-use Rattle.device.specs.declared.Device.{Device}
-use Rattle.loading.specs.declared.Answer.{Answer}
-use Rattle.loading.specs.declared.Answer.the-variants as answer
-use Rattle.commands.specs.Commands.{commandOf}
-use Rattle.commands.specs.declared.Answered.{Answered}
-use Rattle.commands.specs.declared.Reply.{Reply}
-use Rattle.commands.specs.declared.Reply.the-variants as reply
-use Rattle.step.specs.Step.{endNumber}
-use Rattle.run.specs.Run.{runOf, listOf}
-use Rattle.run.specs.declared.Outcome.{Outcome}
-use Rattle.run.specs.declared.Outcome.the-variants as outcome
+use Rattle.ground_setup.specs.declared.Size.the-variants.{K4}
+use Rattle.ground_refusals.specs.Refusals.{refusalNumber}
+use Rattle.capi_packed.specs.Packed.{refusedNumber}
+use Rattle.device_2250.specs.Device.{freshOf, switchedOf, loadOf, commandOf, runOf, listOf}
+use Rattle.device_2250.specs.declared.Device.{Device}
+use Rattle.unit_loading.specs.declared.LoadReply.{LoadReply}
+use Rattle.unit_loading.specs.declared.LoadReply.the-variants as answer
+use Rattle.device_2250.specs.declared.Answered.{Answered}
+use Rattle.unit_commands.specs.declared.Reply.{Reply}
+use Rattle.unit_commands.specs.declared.Reply.the-variants as reply
+use Rattle.unit_step.specs.Step.{endNumber}
+use Rattle.unit_run.specs.declared.RunReply.{RunReply}
+use Rattle.unit_run.specs.declared.RunReply.the-variants as outcome
 
-abbrev pub outcomeNumber : Outcome → ℕ
+abbrev pub outcomeNumber : RunReply → ℕ
 outcomeNumber (outcome.Done steps e items) = endNumber e * 0x1000000000000 + items % 0x1000000 * 0x1000000 + steps % 0x1000000
 outcomeNumber (outcome.Refused r) = refusedNumber (refusalNumber r)
 
@@ -44,18 +41,18 @@ abbrev pub startedList : Device → ℕ → List ℕ → List ℕ → List ℕ
 startedList d start sights out = repliedList (started d start .device) sights out (started d start .answer)
 
 -- a dump that is refused is not run
-abbrev pub numberBy : Device → ℕ → Bool → List ℕ → List ℕ → Answer → ℕ
-numberBy d start closed sights out answer.Done = startedNumber (switchedOf d closed) start sights out
-numberBy d start closed sights out (answer.Refused r) = refusedNumber (refusalNumber r)
+abbrev pub startedNumberBy : Device → ℕ → Bool → List ℕ → List ℕ → LoadReply → ℕ
+startedNumberBy d start closed sights out answer.Done = startedNumber (switchedOf d closed) start sights out
+startedNumberBy d start closed sights out (answer.Refused r) = refusedNumber (refusalNumber r)
 
-abbrev pub listBy : Device → ℕ → Bool → List ℕ → List ℕ → Answer → List ℕ
-listBy d start closed sights out answer.Done = startedList (switchedOf d closed) start sights out
-listBy d start closed sights out (answer.Refused r) = out
+abbrev pub startedListBy : Device → ℕ → Bool → List ℕ → List ℕ → LoadReply → List ℕ
+startedListBy d start closed sights out answer.Done = startedList (switchedOf d closed) start sights out
+startedListBy d start closed sights out (answer.Refused r) = out
 
 unfoldable pub loadedNumber : ℕ → List ℕ → ℕ → Bool → List ℕ → List ℕ → ℕ
 loadedNumber size dump start closed sights out =
-    numberBy (loadOf (freshOf K4) size dump .device) start closed sights out (loadOf (freshOf K4) size dump .answer)
+    startedNumberBy (loadOf (freshOf K4) size dump .device) start closed sights out (loadOf (freshOf K4) size dump .answer)
 
 unfoldable pub loadedList : ℕ → List ℕ → ℕ → Bool → List ℕ → List ℕ → List ℕ
 loadedList size dump start closed sights out =
-    listBy (loadOf (freshOf K4) size dump .device) start closed sights out (loadOf (freshOf K4) size dump .answer)
+    startedListBy (loadOf (freshOf K4) size dump .device) start closed sights out (loadOf (freshOf K4) size dump .answer)

@@ -2,26 +2,28 @@
 // answer is one number.
 //
 // The contract cites `specs/Started.antt`.
-use commands::Reply;
-use device::Device;
-use loading::Answer;
-use orders::Size;
-use run::Outcome;
+use capi_packed as packed;
+use device_2250 as device;
+use device_2250::Device;
+use ground_setup::Size;
+use unit_commands::Reply;
+use unit_loading::LoadReply;
+use unit_run::RunReply;
+use unit_step as step;
 ghost use mathlib.Core.Path.{_≡_};
-ghost use Prim.Native.Nat.{_<_};
 ghost use Rattle.capi_run.specs.Started.{outcomeNumber, repliedNumber, repliedList, startedNumber, startedList, loadedNumber, loadedList};
 
 // The number that answers a run.
-fn outcome_number(outcome: Outcome) -> u64
+fn outcome_number(outcome: RunReply) -> u64
     ensures { λ r. ⌜ r ≡ outcomeNumber outcome ⌝ }
 {
     match outcome {
-        Outcome::Done(steps, end, items) => {
+        RunReply::Done(steps, end, items) => {
             packed::wide(step::end_number(end)) * 0x1000000000000
                 + items as u64 % 0x1000000 * 0x1000000
                 + steps as u64 % 0x1000000
         }
-        Outcome::Refused(refusal) => packed::refused(refusal),
+        RunReply::Refused(refusal) => packed::refused(refusal),
     }
 }
 
@@ -32,7 +34,7 @@ fn run_replied(device: Device, reply: Reply, sights: &[u8], items: &mut [u16]) -
     match reply {
         Reply::Refused(refusal) => packed::refused(refusal),
         Reply::Status(_, _) => {
-            let ran = run::run(device, sights, items);
+            let ran = device::run(device, sights, items);
             let outcome = ran.answer;
             outcome_number(outcome)
         }
@@ -45,7 +47,7 @@ fn run_started(device: Device, start: u16, sights: &[u8], items: &mut [u16]) -> 
 {
     let bytes = [(start / 0x100) as u8, (start % 0x100) as u8];
     let mut room = [0u8; 1];
-    let answered = commands::command(device, 0x27, &bytes, &mut room);
+    let answered = device::command(device, 0x27, &bytes, &mut room);
     let reply = answered.answer;
     let unit = answered.device;
     run_replied(unit, reply, sights, items)
@@ -63,11 +65,11 @@ pub extern "C" fn khaonuat_run(
 ) -> u64
     ensures { λ r. ⌜ (r ≡ loadedNumber size (now (dump .entry)) start closed (now (sights .entry)) (now (items .entry))) × (now (items .exit) ≡ loadedList size (now (dump .entry)) start closed (now (sights .entry)) (now (items .entry))) ⌝ }
 {
-    let loaded = loading::load(device::fresh(Size::K4), size as usize, dump);
+    let loaded = device::load(device::fresh(Size::K4), size as usize, dump);
     let answer = loaded.answer;
     let unit = loaded.device;
     match answer {
-        Answer::Refused(refusal) => packed::refused(refusal),
-        Answer::Done => run_started(device::switch_to(unit, closed), start, sights, items),
+        LoadReply::Refused(refusal) => packed::refused(refusal),
+        LoadReply::Done => run_started(device::switch_to(unit, closed), start, sights, items),
     }
 }

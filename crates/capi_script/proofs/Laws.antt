@@ -9,14 +9,14 @@ use lib.ListN.{length, take, drop, length-drop, drop-of-length-le}
 use lib.Seq.{take-nil, drop-nil, drop-drop}
 use lib.Dec.{eqb}
 use Rattle.bytes.specs.Bytes.{indexOf, indexAfter}
-use Rattle.text.specs.Text.{endOf}
-use Rattle.text.proofs.Laws.{Puts, behind}
-use Rattle.phrases.proofs.Laws.{put-no-text}
-use Rattle.orders.specs.declared.Size.the-variants.{K4}
-use Rattle.device.specs.Device.{freshOf}
-use Rattle.device.specs.declared.Device.{Device}
-use Rattle.session.specs.declared.Told.{Told}
-use Rattle.session.specs.Session.{saidOf, Speaks}
+use Rattle.text_put.specs.Text.{endOf}
+use Rattle.text_put.proofs.Laws.{Puts, behind}
+use Rattle.console_phrases.proofs.Laws.{put-no-text}
+use Rattle.ground_setup.specs.declared.Size.the-variants.{K4}
+use Rattle.device_2250.specs.Device.{freshOf}
+use Rattle.device_2250.specs.declared.Device.{Device}
+use Rattle.console_session.specs.declared.Spoken.{Spoken}
+use Rattle.console_session.specs.Session.{saidOf, Speaks}
 use Rattle.capi_script.specs.Scripted.{firstLine, joined, linesOf, answersOf, playOf}
 
 -- a script that is not empty: by its first byte, then by its first line
@@ -65,7 +65,7 @@ playing-first out script d e =
       rest = ap (λ (d : Device). answersOf d (linesOf script)) e;
     }
 
-pub playing-next : (out₀ script out after : List ℕ) (d : Device) (from end used : ℕ) (rest : List ℕ) (told : Told)
+pub playing-next : (out₀ script out after : List ℕ) (d : Device) (from end used : ℕ) (rest : List ℕ) (told : Spoken)
     → from < length script
     → rest ≡ drop from script
     → used ≡ min (indexOf 10 rest + 1) (length rest)

@@ -1,14 +1,14 @@
 -- A whole script: "One request a line"; "Before the first `fresh` or `load` the unit is a fresh one of 4,096."
-use Prim.Native.Nat.{ℕ, _+_}
+use Prim.Native.Nat.{ℕ}
 use mathlib.Core.Bool.{cond}
 use mathlib.Core.List.{List, [], _∷_, _++_}
 use lib.ListN.{take}
 use lib.Dec.{eqb}
 use Rattle.bytes.specs.Bytes.{indexOf}
-use Rattle.orders.specs.declared.Size.the-variants.{K4}
-use Rattle.device.specs.Device.{freshOf}
-use Rattle.device.specs.declared.Device.{Device}
-use Rattle.session.specs.Session.{saidOf}
+use Rattle.ground_setup.specs.declared.Size.the-variants.{K4}
+use Rattle.device_2250.specs.Device.{freshOf}
+use Rattle.device_2250.specs.declared.Device.{Device}
+use Rattle.console_session.specs.Session.{saidOf}
 
 -- what stands before the first newline
 unfoldable pub firstLine : List ℕ → List ℕ

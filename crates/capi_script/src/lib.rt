@@ -1,15 +1,18 @@
 // A whole script in memory, answered by one unit, for programs in other languages.
 //
 // The contracts cite `specs/Scripted.antt`.
-use device::Device;
-use orders::Size;
-use session::Told;
+use console_session as session;
+use console_session::Spoken;
+use device_2250 as device;
+use device_2250::Device;
+use ground_setup::Size;
+use text_parse as parse;
 ghost use mathlib.Core.Path.{_≡_};
 ghost use Prim.Native.Nat.{_+_, min};
 ghost use lib.ListN.{length, drop};
 ghost use Rattle.bytes.specs.Bytes.{indexOf};
-ghost use Rattle.text.specs.Text.{putAt, endOf};
-ghost use Rattle.session.specs.Session.{saidOf, Speaks};
+ghost use Rattle.text_put.specs.Text.{putAt, endOf};
+ghost use Rattle.console_session.specs.Session.{saidOf, Speaks};
 ghost use Rattle.capi_script.specs.Scripted.{firstLine, playOf};
 
 // What stands from a place on.
@@ -39,7 +42,7 @@ fn with_newline(rest: &[u8]) -> usize
 }
 
 // Answers the first line.
-fn answer_first(device: Device, rest: &[u8], out: &mut [u8], at: usize) -> Told
+fn answer_first(device: Device, rest: &[u8], out: &mut [u8], at: usize) -> Spoken
     ensures { λ r. ⌜ Speaks (saidOf device (firstLine (now (rest .entry)))) (now (out .entry)) at (now (out .exit)) r ⌝ }
 {
     session::answer(device, first_line(rest), out, at)

@@ -2,8 +2,8 @@
 use mathlib.Core.Path.{_≡_}
 use mathlib.Core.List.{List}
 use Prim.Native.Nat.{ℕ, _+_, _*_, _%_}
-use Rattle.packed.specs.Packed.{refusedNumber}
-use Rattle.validator.specs.Verdict.{Values, Tried, Judged}
+use Rattle.capi_packed.specs.Packed.{refusedNumber}
+use Rattle.validator_verdict.specs.Verdict.{Values, Tried, Judged}
 
 abbrev pub verdictNumber : Values → ℕ
 verdictNumber (Values.passed c) = c % 0x100000000
@@ -11,7 +11,7 @@ verdictNumber (Values.fault n a k) = 0x100000000000000 + n * 0x1000000000000 + a
 verdictNumber (Values.refused n) = refusedNumber n
 
 -- the number of what the validator answers; the store as it leaves it
-pub record Told (t : Tried) (image : List ℕ) (start : ℕ) (s s′ : List ℕ) (number : ℕ) : Type 0 where
+pub record VerdictTold (t : Tried) (image : List ℕ) (start : ℕ) (s s′ : List ℕ) (number : ℕ) : Type 0 where
   pub values : Values
   pub judged : Judged t image start s s′ values
   pub told : number ≡ verdictNumber values

@@ -1,12 +1,14 @@
 // The validator for programs in other languages: its answer in one number.
 //
 // The contract cites `specs/Told.antt`.
-use validator::Verdict;
+use capi_packed as packed;
+use ground_look as look;
+use validator_verdict as validator;
+use validator_verdict::Verdict;
 ghost use mathlib.Core.Path.{_≡_};
-ghost use Prim.Native.Nat.{_<_};
 ghost use lib.ListN.{length};
-ghost use Rattle.validator.specs.Verdict.{valuesOf, triedOf};
-ghost use Rattle.capi_validate.specs.Told.{verdictNumber, Told};
+ghost use Rattle.validator_verdict.specs.Verdict.{valuesOf, triedOf};
+ghost use Rattle.capi_validate.specs.Told.{verdictNumber, VerdictTold};
 
 // The number that answers a verdict.
 fn verdict_number(verdict: Verdict) -> u64
@@ -27,7 +29,7 @@ fn verdict_number(verdict: Verdict) -> u64
 // The verdict on an image of a buffer of `size` locations, from a start address, in a working store.
 #[no_mangle]
 pub extern "C" fn khaonuat_validate(image: &[u8], size: u32, start: u32, store: &mut [u8]) -> u64
-    ensures { λ r. ⌜ Told (triedOf size (length (now (image .entry))) start (length (now (store .entry)))) (now (image .entry)) start (now (store .entry)) (now (store .exit)) r ⌝ }
+    ensures { λ r. ⌜ VerdictTold (triedOf size (length (now (image .entry))) start (length (now (store .entry)))) (now (image .entry)) start (now (store .entry)) (now (store .exit)) r ⌝ }
 {
     verdict_number(validator::validate(image, size as usize, start as usize, store))
 }

@@ -2,20 +2,20 @@
 use Prim.Native.Nat.{ℕ, _<_}
 use mathlib.Core.Bool.{cond}
 use lib.Dec.{ltb}
-use Rattle.parse.specs.declared.Parsed.{Parsed}
-use Rattle.parse.specs.declared.Parsed.the-variants as parsed
+use Rattle.text_parse.specs.declared.Parsed.{Parsed}
+use Rattle.text_parse.specs.declared.Parsed.the-variants as parsed
 use Rattle.wrap.specs.declared.Word.{Word}
 use Rattle.wrap.specs.declared.Word.the-variants as word
 use Rattle.wrap.specs.declared.Image.{Image}
 use Rattle.wrap.specs.declared.Image.the-variants as image
 
 -- size and start have two bytes in a record
-abbrev pub wordOf : Parsed → Word
-wordOf (parsed.Number n) = cond (ltb n 65536) (word.Is n) word.Wrong
-wordOf parsed.Wrong = word.Wrong
+abbrev pub wordIn : Parsed → Word
+wordIn (parsed.Number n) = cond (ltb n 65536) (word.Is n) word.Wrong
+wordIn parsed.Wrong = word.Wrong
 
 -- an image that was read to its end leaves room in the space that it was read into
-abbrev pub Within : ℕ → Image → Type 0
-Within room (image.Read count) = count < room
-Within room image.Long = Unit {0}
-Within room image.Failed = Unit {0}
+abbrev pub ReadWithin : ℕ → Image → Type 0
+ReadWithin room (image.Read count) = count < room
+ReadWithin room image.Long = Unit {0}
+ReadWithin room image.Failed = Unit {0}

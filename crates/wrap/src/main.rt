@@ -1,13 +1,15 @@
 // wrap SIZE START: reads a raw image from standard input and writes it as one record of kind 1 to standard output. Wrong
 // arguments and an image that no record can hold are told in one line on standard error, and nothing is written then.
+use record_format as records;
+use text_parse as parse;
 ghost use Prim.Native.Nat.{_<_};
 ghost use mathlib.Core.Path.{_≡_};
 ghost use lib.ListN.{length};
-ghost use Rattle.wrap.specs.Wrap.{wordOf, Within};
+ghost use Rattle.wrap.specs.Wrap.{wordIn, ReadWithin};
 use libc::STDERR_FILENO;
 use libc::STDIN_FILENO;
 use libc::STDOUT_FILENO;
-use parse::Parsed;
+use text_parse::Parsed;
 
 // A number of 16 bits, or none.
 enum Word {
@@ -27,7 +29,7 @@ enum Image {
 
 // A number as one of 16 bits.
 fn word_of(parsed: Parsed) -> Word
-    ensures { λ r. ⌜ r ≡ wordOf parsed ⌝ }
+    ensures { λ r. ⌜ r ≡ wordIn parsed ⌝ }
 {
     match parsed {
         Parsed::Wrong => Word::Wrong,
@@ -50,7 +52,7 @@ fn argument(i: usize) -> Word {
 
 // Reads the input into the space, which is larger than any image.
 fn read_image(space: &mut [u8]) -> Image
-    ensures { λ r. ⌜ Within (length (now (space .entry))) r ⌝ }
+    ensures { λ r. ⌜ ReadWithin (length (now (space .entry))) r ⌝ }
 {
     let mut end = 0;
     while end < space.len() {

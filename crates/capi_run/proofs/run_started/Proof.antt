@@ -1,5 +1,5 @@
 use mathlib.Core.Path.{ap}
-use Rattle.commands.specs.Commands.{Outcome}
+use Rattle.device_2250.specs.Device.{Outcome}
 use borrow.Author.Needs.{needs}
 use Rattle.capi_run.proofs.run_started.Statement.{statement}
 use Rattle.capi_run.proofs.run_started.Tie as tie

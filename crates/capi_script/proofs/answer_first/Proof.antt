@@ -1,6 +1,6 @@
 use mathlib.Core.Path.{ap}
-use Rattle.session.specs.Session.{saidOf}
-use Rattle.session.proofs.Laws.{speaks-as}
+use Rattle.console_session.specs.Session.{saidOf}
+use Rattle.console_session.proofs.Laws.{speaks-as}
 use borrow.Author.Needs.{needs}
 use Rattle.capi_script.proofs.answer_first.Statement.{statement}
 use Rattle.capi_script.proofs.answer_first.Tie as tie

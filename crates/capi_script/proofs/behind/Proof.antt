@@ -1,7 +1,7 @@
 use mathlib.Core.Path.{sym}
 use lib.ListN.{drop-of-length-le}
 use denote.Ref.{now}
-use Rattle.script.proofs.Laws.{to-the-end}
+use Rattle.console_script.proofs.Laws.{to-the-end}
 use borrow.Author.Needs.{needs}
 use Rattle.capi_script.proofs.behind.Statement.{statement}
 use Rattle.capi_script.proofs.behind.Tie as tie

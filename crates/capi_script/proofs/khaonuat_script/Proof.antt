@@ -4,7 +4,7 @@ use mathlib.Core.Path.{_≡_, ap, _∙_}
 use Prim.Native.Nat.{ℕ, _-_, _≤_}
 use lib.ListN.{length, length-drop}
 use denote.Ref.{now}
-use Rattle.text.proofs.Laws.{length-put}
+use Rattle.text_put.proofs.Laws.{length-put}
 use Rattle.capi_script.proofs.Laws.{Playing, playing-first, playing-next, played}
 use Rattle.capi_script.proofs.khaonuat_script.Statement.{statement}
 use Rattle.capi_script.proofs.khaonuat_script.Tie as tie

@@ -1,0 +1,29 @@
+use borrow.Author.Needs.{needs}
+use Rattle.console_phrases.proofs.put_either.Statement.{statement}
+use Rattle.console_phrases.proofs.put_either.Tie as tie
+
+put-requires : tie.Need-put-requires
+put-requires c κs = search needs
+
+put-requires-2 : tie.Need-put-requires-2
+put-requires-2 c κs = search needs
+
+same-length : tie.Need-same-length
+same-length c = search needs
+
+returns : tie.Need-returns
+returns c =
+    let test = c .before .before .before .before .if1 .taken in
+    (simp test (c .before .before .put .ensures .0), simp test (c .before .before .put .ensures .1))
+
+same-length-2 : tie.Need-same-length-2
+same-length-2 c = search needs
+
+returns-2 : tie.Need-returns-2
+returns-2 c =
+    let test = c .before .before .before .before .if1 .left in
+    (simp test (c .before .before .put2 .ensures .0), simp test (c .before .before .put2 .ensures .1))
+
+pub put-either-spec : {M : Type 1} → statement M
+put-either-spec =
+    tie.close (tie.spec put-requires put-requires-2 same-length returns same-length-2 returns-2)

@@ -1,4 +1,0 @@
-// The program console on another input.
-fn main() {
-    dialogue::hold(usize::MAX);
-}

@@ -1,3 +1,0 @@
--- hand-written modules
-pub mod Unit
-pub mod Images

@@ -1,4 +1,0 @@
-pub mod Layout
-pub mod Store
-pub mod Search
-pub mod Image

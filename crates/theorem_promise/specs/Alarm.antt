@@ -1,0 +1,24 @@
+-- A fault that the validator names is no false alarm: some walk, which one can follow place by place, meets it.
+use Prim.Native.Nat.{ℕ}
+use mathlib.Core.Path.{_≡_}
+use mathlib.Core.List.{List, [], _∷_}
+use lib.ListN.{length}
+use Rattle.ground_orders.specs.declared.Mode.the-variants.{Idle}
+use Rattle.validator_walks.specs.declared.Place.{Place}
+use Rattle.ground_setup.specs.declared.Setup.{Setup}
+use Rattle.validator_walks.specs.Places.{place}
+use Rattle.validator_walks.specs.Steps.{Step, Leads, stepOf}
+
+-- from p through the places ps, one after the other, to q; where a Transfer On No Detect stands, the next place is the way chosen
+abbrev pub Walk : (Place → Step Place) → Place → List Place → Place → Type 0
+Walk step p [] q = q ≡ p
+Walk step p (r ∷ rs) q = Leads (step p) r × Walk step r rs q
+
+-- a walk of k steps from the start to a place at address a whose step is fault n
+pub record Alarm (image : List ℕ) (su : Setup) (start n a k : ℕ) : Type 0 where
+  pub places : List Place
+  pub last : Place
+  pub steps : length places ≡ k
+  pub walk : Walk (stepOf image su) (place start Idle) places last
+  pub at : last .at ≡ a
+  pub faulty : stepOf image su last ≡ Step.faulty n

@@ -1,0 +1,3 @@
+-- hand-written modules
+pub mod Calls
+pub mod Images

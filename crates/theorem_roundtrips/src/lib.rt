@@ -1,0 +1,1 @@
+// Theorems only: what is written comes back, and the two ways to bring an image into a unit. What they say stands in `specs/`.

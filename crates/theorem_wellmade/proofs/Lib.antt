@@ -1,0 +1,9 @@
+-- hand-written modules
+pub mod Stores
+pub mod Cursors
+pub mod Beams
+pub mod Looks
+pub mod Strokes
+pub mod Steps
+pub mod Calls
+pub mod Made

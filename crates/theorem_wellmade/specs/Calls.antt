@@ -1,0 +1,46 @@
+-- Demand 1: every call of a well-made unit gives a well-made unit. Halt I/O is left out: it gives the unit back as it was.
+use Prim.Native.Nat.{ℕ, _≤_}
+use mathlib.Core.Bool.{Bool}
+use mathlib.Core.List.{List}
+use Rattle.ground_setup.specs.Setup.{sizeOf}
+use Rattle.ground_setup.specs.declared.Size.{Size}
+use Rattle.unit_head.specs.Head.{DisplayUnit, unit, freshUnit, switchedHead}
+use Rattle.unit_loading.specs.Loading.{unitLoad}
+use Rattle.unit_commands.specs.Commands.{unitAfter, unitCommand}
+use Rattle.unit_run.specs.Run.{unitRun}
+use Rattle.typing_keys.specs.Keys.{unitKey}
+use Rattle.theorem_roundtrips.specs.RoundTrips.{Bytes}
+use Rattle.theorem_wellmade.specs.WellMade.{WellMade}
+
+-- an array of n words has room for a buffer of any size
+abbrev pub Houses : ℕ → Type 0
+Houses n = (s : Size) → sizeOf s ≤ n
+
+-- a fresh unit
+abbrev pub FreshWell : Type 0
+FreshWell = (n : ℕ) → Houses n → (s : Size) → WellMade n (freshUnit n s)
+
+-- loading a dump, of any words and under any size
+abbrev pub LoadWell : Type 0
+LoadWell = (n : ℕ) → Houses n → (u : DisplayUnit) → WellMade n u → (size : ℕ) (dump : List ℕ) → WellMade n (unitLoad u size dump .unit)
+
+-- the switch, opened or closed
+abbrev pub SwitchWell : Type 0
+SwitchWell = (n : ℕ) (u : DisplayUnit) → WellMade n u → (closed : Bool) → WellMade n (unit (u .words) (switchedHead (u .head) closed))
+
+-- a command, of any code, with any bytes and any room
+abbrev pub CommandWell : Type 0
+CommandWell =
+    (n : ℕ) (u : DisplayUnit)
+    → WellMade n u
+    → (code : ℕ) (bytes room : List ℕ)
+    → Bytes bytes
+    → WellMade n (unitAfter (unitCommand u code bytes room))
+
+-- a run, with any sights and any room for its list
+abbrev pub RunWell : Type 0
+RunWell = (n : ℕ) (u : DisplayUnit) → WellMade n u → (sights out : List ℕ) → WellMade n (unit (u .words) (unitRun u sights out .head))
+
+-- a key, of any number
+abbrev pub KeyWell : Type 0
+KeyWell = (n : ℕ) (u : DisplayUnit) → WellMade n u → (number : ℕ) → WellMade n (unitKey u number .unit)

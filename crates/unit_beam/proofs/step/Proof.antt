@@ -1,0 +1,17 @@
+use borrow.Author.Needs.{needs}
+use Rattle.unit_beam.specs.Beam.{stepped}
+use Rattle.unit_beam.proofs.step.Statement.{statement}
+use Rattle.unit_beam.proofs.step.Tie as tie
+
+sum-of-requires : tie.Need-sum-of-requires
+sum-of-requires c κs = search needs
+
+sum-of-requires-2 : tie.Need-sum-of-requires-2
+sum-of-requires-2 c κs = search needs
+
+returns : tie.Need-returns
+unfolding stepped
+returns c = cc
+
+pub step-spec : {M : Type 1} → statement M
+step-spec = tie.close (tie.spec sum-of-requires sum-of-requires-2 returns)

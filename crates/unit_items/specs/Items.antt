@@ -1,0 +1,55 @@
+-- Drawn items (01, "Drawn item") and the list that takes them.
+use Prim.Native.Nat.{ℕ, _+_, _*_, _/_}
+use mathlib.Core.Bool.{Bool, cond}
+use mathlib.Core.List.{List, [], _∷_, _++_}
+use lib.ListN.{length}
+use lib.Seq.{sets}
+use lib.Dec.{leb}
+use Rattle.unit_beam.specs.declared.CharacterSize.{CharacterSize}
+use Rattle.unit_beam.specs.declared.CharacterSize.the-variants.{Basic, Large}
+use Rattle.unit_items.specs.declared.Item.{Item}
+use Rattle.unit_items.specs.declared.Item.the-variants.{Point, Vector, Character, Cursor}
+use Rattle.unit_items.specs.declared.Part.{Part}
+use Rattle.unit_items.specs.declared.Part.the-variants.{Nothing, One, Two}
+use Rattle.unit_items.specs.declared.Drawn.{Drawn}
+use Rattle.unit_items.specs.declared.Listing.{Listing}
+use Rattle.unit_items.specs.declared.Listing.the-variants.{Full, Next}
+
+-- "size (1 basic, 2 large)"
+abbrev pub sizeNumber : CharacterSize → ℕ
+sizeNumber Basic = 1
+sizeNumber Large = 2
+
+-- "eight 16-bit numbers: kind (1 point, 2 vector, 3 character, 4 cursor), from X, from Y, to X, to Y, code, size .., address of its
+-- first byte. From equals to except for vectors; code and size are 0 for 1 and 2."
+abbrev pub numbersOf : Item → List ℕ
+numbersOf (Point x y at) = 1 ∷ x ∷ y ∷ x ∷ y ∷ 0 ∷ 0 ∷ at ∷ []
+numbersOf (Vector x₀ y₀ x y at) = 2 ∷ x₀ ∷ y₀ ∷ x ∷ y ∷ 0 ∷ 0 ∷ at ∷ []
+numbersOf (Character size x y code at) = 3 ∷ x ∷ y ∷ x ∷ y ∷ code ∷ sizeNumber size ∷ at ∷ []
+numbersOf (Cursor size x y code at) = 4 ∷ x ∷ y ∷ x ∷ y ∷ code ∷ sizeNumber size ∷ at ∷ []
+
+-- the numbers of several items, one item after the other
+abbrev pub numbers : List Item → List ℕ
+numbers [] = []
+numbers (i ∷ is) = numbersOf i ++ numbers is
+
+-- the items of a part, and of a step
+abbrev pub itemsIn : Part → List Item
+itemsIn Nothing = []
+itemsIn (One i) = i ∷ []
+itemsIn (Two i j) = i ∷ j ∷ []
+
+unfoldable pub itemsOf : Drawn → List Item
+itemsOf d = itemsIn (d .first) ++ itemsIn (d .second)
+
+-- whether items fit a list of so many numbers behind those that it has
+abbrev pub fits : ℕ → ℕ → List Item → Bool
+fits room have items = leb (have + length items) (room / 8)
+
+-- how many items the list has afterwards, if they fit
+unfoldable pub listing : ℕ → ℕ → List Item → Listing
+listing room have items = cond (fits room have items) (Next (have + length items)) Full
+
+-- the list afterwards: their numbers stand behind those of the items that it has; a list with no room for all stays as it was
+unfoldable pub listed : List ℕ → ℕ → List Item → List ℕ
+listed out have items = cond (fits (length out) have items) (sets out (have * 8) (numbers items)) out

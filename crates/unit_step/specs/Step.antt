@@ -1,0 +1,133 @@
+-- One step of a unit that runs (01, "One step of regeneration" and "The pen"): how it moves the state, and what it draws.
+use Prim.Native.Nat.{ℕ}
+use mathlib.Core.Bool.{Bool, false, cond}
+use mathlib.Core.List.{List}
+use Rattle.ground_orders.specs.declared.Mode.{Mode}
+use Rattle.ground_orders.specs.declared.Mode.the-variants.{Idle}
+use Rattle.ground_groups.specs.Groups.{wordsGroup}
+use Rattle.ground_look.specs.Look.{faultNumber, lookOf}
+use Rattle.ground_look.specs.declared.Look.{Look}
+use Rattle.ground_look.specs.declared.Look.the-variants as look
+use Rattle.unit_beam.specs.declared.Beam.{Beam}
+use Rattle.unit_pen.specs.Pen.{ordered, timed, seenOf, detected, transfers, transferred}
+use Rattle.unit_pen.specs.declared.Pen.{Pen}
+use Rattle.unit_motion.specs.Motion.{motionOf, beamAfter}
+use Rattle.unit_motion.specs.declared.Motion.{Motion}
+use Rattle.unit_drawing.specs.Drawing.{strokesOf, upto, hitIn}
+use Rattle.unit_drawing.specs.declared.Hit.{Hit}
+use Rattle.unit_drawing.specs.declared.Hit.the-variants as hit
+use Rattle.unit_items.specs.declared.Item.{Item}
+use Rattle.unit_cursor.specs.Cursor.{Buffer, cursorHere}
+use Rattle.unit_head.specs.declared.State.{State}
+use Rattle.ground_setup.specs.Setup.{wrapOf, aheadOf}
+use Rattle.unit_step.specs.declared.End.{End}
+use Rattle.unit_step.specs.declared.End.the-variants as end
+use Rattle.unit_step.specs.declared.Stepped.{Stepped}
+use Rattle.unit_step.specs.declared.Stepped.the-variants as stepped
+
+-- "0 sights used up, 1 to 5 fault, 6 end order, 7 detect, 8 data check, 9 items don't fit, 10 not running"
+abbrev pub endNumber : End → ℕ
+endNumber end.SightsUsed = 0
+endNumber (end.Fault f) = faultNumber f
+endNumber end.EndOrder = 6
+endNumber end.Detect = 7
+endNumber end.DataCheck = 8
+endNumber end.NoRoom = 9
+endNumber end.NotRunning = 10
+
+-- the look at the place of a state
+abbrev pub lookAt : List ℕ → State → Look
+lookAt words s = lookOf (wordsGroup words (s .setup)) (s .setup) (s .address) (s .mode)
+
+-- the motion of a look from a state
+abbrev pub motionAt : Look → State → Motion
+motionAt l s = motionOf l (s .mode) (s .beam)
+
+-- the state at another address and mode, still running
+abbrev pub at : State → ℕ → Mode → State
+at s a m = record { setup = s .setup; address = a; mode = m; running = s .running; beam = s .beam; pen = s .pen }
+
+-- the state at another address, idle, with another pen
+abbrev pub penned : State → ℕ → Pen → State
+penned s a p = record { setup = s .setup; address = a; mode = Idle; running = s .running; beam = s .beam; pen = p }
+
+-- the state at another address with the beam elsewhere
+abbrev pub beamed : State → ℕ → Beam → State
+beamed s a b = record { setup = s .setup; address = a; mode = s .mode; running = s .running; beam = b; pen = s .pen }
+
+-- stopped at an address in a mode
+abbrev pub stopped : State → ℕ → Mode → State
+stopped s a m = record { setup = s .setup; address = a; mode = m; running = false; beam = s .beam; pen = s .pen }
+
+-- "It stops regeneration after that item, the beam at the item's end", at the item's address
+abbrev pub struck : State → ℕ → Beam → State
+struck s a b = record { setup = s .setup; address = a; mode = s .mode; running = false; beam = b; pen = detected (s .pen) }
+
+-- data: a detect, or on to the next address with the beam at b
+abbrev pub dataTo : State → Beam → ℕ → Hit → Stepped
+dataTo s b next hit.Missed = stepped.Goes (beamed s next b)
+dataTo s b next (hit.At a e) = stepped.Stops (struck s a e) end.Detect
+
+-- a Transfer On No Detect, by whether it goes
+abbrev pub eitherBy : State → ℕ → ℕ → Bool → Stepped
+eitherBy s target next goes =
+    cond goes (stepped.Goes (penned s target (transferred (s .pen)))) (stepped.Goes (at s next Idle))
+
+-- what a look makes of the state; h is the item that the sight falls on, b where data leave the beam. "Any fault stops regeneration at A
+-- with no status (house)"; "bad parity stops with Data Check at that byte"; "End Order Sequence stops in idle, .. the address after it"
+abbrev pub advanceTo : State → Beam → Hit → Look → Stepped
+advanceTo s b h (look.Fault f) = stepped.Stops (stopped s (s .address) (s .mode)) (end.Fault f)
+advanceTo s b h (look.Check a) = stepped.Stops (stopped s a (s .mode)) end.DataCheck
+advanceTo s b h (look.Enter m next) = stepped.Goes (at s next m)
+advanceTo s b h (look.Pass next) = stepped.Goes (at s next Idle)
+advanceTo s b h (look.Timer next) = stepped.Goes (penned s next (timed (s .pen)))
+advanceTo s b h (look.SetPen p next) = stepped.Goes (penned s next (ordered (s .pen) p))
+advanceTo s b h (look.End next) = stepped.Stops (stopped s next Idle) end.EndOrder
+advanceTo s b h (look.Jump target) = stepped.Goes (at s target Idle)
+advanceTo s b h (look.Either target next) = eitherBy s target next (transfers (s .pen))
+advanceTo s b h (look.Two x y next) = dataTo s b next h
+advanceTo s b h (look.Four x₁ x₂ y₁ y₂ next) = dataTo s b next h
+
+-- the item that what is seen falls on, by the motion
+abbrev pub hitBy : State → Motion → ℕ → Hit
+hitBy s m seen = hitIn seen (strokesOf m (s .beam) false false (s .setup .size) (s .address))
+
+-- advancing by a look and its motion: the state after a step with a sight
+unfoldable pub advanceWith : State → Look → Motion → ℕ → Stepped
+advanceWith s l m sight = advanceTo s (beamAfter m (s .beam)) (hitBy s m (seenOf (s .pen) sight)) l
+
+-- advancing: the state after a step with a sight
+unfoldable pub advanceOf : State → Look → ℕ → Stepped
+advanceOf s l sight = advanceWith s l (motionAt l s) sight
+
+-- advancing by a step that leaves the beam where it stands, so that no sight falls on it
+unfoldable pub stillOf : State → Look → Stepped
+stillOf s l = advanceTo s (s .beam) hit.Missed l
+
+-- the address behind data
+abbrev pub behindData : Look → ℕ
+behindData (look.Fault f) = 0
+behindData (look.Check a) = 0
+behindData (look.Enter m next) = 0
+behindData (look.Pass next) = 0
+behindData (look.Timer next) = 0
+behindData (look.SetPen p next) = 0
+behindData (look.End next) = 0
+behindData (look.Jump target) = 0
+behindData (look.Either target next) = 0
+behindData (look.Two x y next) = next
+behindData (look.Four x₁ x₂ y₁ y₂ next) = next
+
+-- advancing over data, by their motion
+unfoldable pub movedOf : State → Look → Motion → ℕ → Stepped
+movedOf s l m sight = dataTo s (beamAfter m (s .beam)) (behindData l) (hitBy s m (seenOf (s .pen) sight))
+
+-- listing: what a step with a sight draws, up to the item that a detect falls on, by its motion; a cursor at A and one at A+1 are drawn too
+unfoldable pub itemsMoved : Buffer → State → Motion → ℕ → List Item
+itemsMoved b s m sight =
+    upto (seenOf (s .pen) sight)
+    (strokesOf m (s .beam) (cursorHere b (wrapOf (s .setup .size) (s .address))) (cursorHere b (aheadOf (s .setup .size) (s .address) 1))
+    (s .setup .size) (s .address))
+
+unfoldable pub itemsDrawn : Buffer → State → Look → ℕ → List Item
+itemsDrawn b s l sight = itemsMoved b s (motionAt l s) sight

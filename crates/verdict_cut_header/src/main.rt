@@ -1,4 +1,0 @@
-// The program verdict on another input.
-fn main() {
-    listing::list(usize::MAX);
-}

@@ -1,9 +1,0 @@
--- hand-written modules
-pub mod Words
-pub mod Counted
-pub mod Cursors
-pub mod Beams
-pub mod Looks
-pub mod Strokes
-pub mod Steps
-pub mod Calls
