@@ -26,8 +26,9 @@ cursorFrom b (suc n) a = cond (cursorHere b a) (At a) (cursorFrom b n (a + 1))
 unfoldable pub cursorIn : Buffer → Size → Spot
 cursorIn b s = cursorFrom b (sizeOf s) 0
 
--- what each search makes of an address. The order of a field: back by two. Forwards: a mode code is not stepped into (Figure 4-7), a new line is passed (Figure 4-6). Backwards: the
--- field's first location is the one behind the mode code, which is not stepped into (Figure 4-10); a new line is passed (Figure 4-9)
+-- what each search makes of an address. The order of a field: back by two. Forwards: a mode code is not stepped into (Figure 4-7), a new
+-- line is passed (Figure 4-6). Backwards: the field's first location is the one behind the mode code, which is not stepped into (Figure
+-- 4-10); a new line is passed (Figure 4-9)
 abbrev pub seekingOf : List ℕ → Size → Sought → ℕ → Seeking
 seekingOf words s Order a = cond (orderAt words s a) (Ends (At (wrapOf s a))) (On (backOf s a 2))
 seekingOf words s Forward a =

@@ -1,4 +1,5 @@
--- The commands of the channel (01, "Status, sense and commands"; 000 p.18 to 22, Tables 2 and 3): what each command answers, does to the unit and leaves in the room lent.
+-- The commands of the channel (01, "Status, sense and commands"; 000 p.18 to 22, Tables 2 and 3): what each command answers, does to the
+-- unit and leaves in the room lent.
 use Prim.Native.Nat.{ℕ, _+_, _/_, _%_}
 use mathlib.Core.Bool.{Bool, true, false, cond, not, _&&_}
 use mathlib.Core.List.{List}
