@@ -1,41 +1,21 @@
--- A script line by line: its first line, and the lines behind it.
+-- The lines of a script answered from the front, and what is left of it.
 use Prim.Native.Nat.{ℕ, suc, _+_, _≤_, _<_, min}
-use mathlib.Core.Path.{_≡_, refl, sym, ap, subst, _∙_}
-use mathlib.Core.Bool.{Bool, true, false, cond}
-use mathlib.Core.List.{List, [], _∷_, _++_, append-assoc, append-nil}
+use mathlib.Core.Path.{_≡_, sym, ap, subst, _∙_}
+use mathlib.Core.List.{List, [], _++_, append-assoc, append-nil}
 use native.Mathlib.Omega.{arith}
 use native.Mathlib.Decide.{decLt}
-use lib.ListN.{length, take, drop, length-drop, drop-of-length-le}
-use lib.Seq.{take-nil, drop-nil, drop-drop}
-use lib.Dec.{eqb}
-use Rattle.bytes.specs.Bytes.{indexOf, indexAfter}
+use lib.ListN.{length, drop, length-drop, drop-of-length-le}
+use lib.Seq.{drop-drop}
+use Rattle.bytes.specs.Bytes.{indexOf}
 use Rattle.text_put.specs.Text.{endOf}
-use Rattle.text_put.proofs.Laws.{Puts, behind}
-use Rattle.console_phrases.proofs.Laws.{put-no-text}
+use Rattle.text_put.proofs.Laws.{Puts, put-no-text, behind}
 use Rattle.ground_setup.specs.declared.Size.the-variants.{K4}
 use Rattle.device_2250.specs.Device.{freshOf}
 use Rattle.device_2250.specs.declared.Device.{Device}
 use Rattle.console_session.specs.declared.Spoken.{Spoken}
 use Rattle.console_session.specs.Session.{saidOf, Speaks}
-use Rattle.capi_script.specs.Scripted.{firstLine, joined, linesOf, answersOf, playOf}
-
--- a script that is not empty: by its first byte, then by its first line
-by-byte : (byte : ℕ) (rest : List ℕ) (t : Bool) (n : ℕ)
-    → (0 < length rest → linesOf rest ≡ take n rest ∷ linesOf (drop (suc n) rest))
-    → cond t ([] ∷ linesOf rest) (joined byte (linesOf rest))
-    ≡ take (indexAfter t n) (byte ∷ rest) ∷ linesOf (drop (suc (indexAfter t n)) (byte ∷ rest))
-unfolding indexAfter linesOf
-by-byte byte rest true n h = refl
-by-byte byte [] false n h =
-    ap (λ (l : List ℕ). (byte ∷ l) ∷ []) (sym (take-nil n))
-    ∙ ap (λ (l : List ℕ). (byte ∷ take n []) ∷ linesOf l) (sym (drop-nil (suc n)))
-by-byte byte (x ∷ xs) false n h = ap (joined byte) (h (omega arith))
-
-pub first-and-rest : (script : List ℕ) → 0 < length script
-    → linesOf script ≡ take (indexOf 10 script) script ∷ linesOf (drop (suc (indexOf 10 script)) script)
-unfolding linesOf indexOf
-first-and-rest [] h = absurd (omega arith)
-first-and-rest (byte ∷ rest) h = by-byte byte rest (eqb byte 10) (indexOf 10 rest) (first-and-rest rest)
+use Rattle.console_session.specs.Play.{firstLine, linesOf, answersOf, playOf}
+use Rattle.console_session.proofs.Play.{first-and-rest}
 
 -- behind the first line and its newline
 behind-first : (rest : List ℕ) (used : ℕ) → used ≡ min (indexOf 10 rest + 1) (length rest)
@@ -61,7 +41,7 @@ unfolding playOf endOf
 playing-first out script d e =
     record {
       text = [];
-      put = (omega arith, put-no-text out 0);
+      put = (omega arith, sym (put-no-text out 0));
       rest = ap (λ (d : Device). answersOf d (linesOf script)) e;
     }
 

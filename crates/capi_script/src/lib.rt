@@ -1,29 +1,20 @@
 // A whole script in memory, answered by one unit, for programs in other languages.
 //
-// The contracts cite `specs/Scripted.antt`.
+// The contracts cite `Play.antt` of `console_session`.
 use console_session as session;
 use console_session::Spoken;
 use device_2250 as device;
 use device_2250::Device;
 use ground_setup::Size;
 use text_parse as parse;
+use text_parts as parts;
 ghost use mathlib.Core.Path.{_≡_};
 ghost use Prim.Native.Nat.{_+_, min};
-ghost use lib.ListN.{length, drop};
+ghost use lib.ListN.{length};
 ghost use Rattle.bytes.specs.Bytes.{indexOf};
 ghost use Rattle.text_put.specs.Text.{putAt, endOf};
+ghost use Rattle.console_session.specs.Play.{firstLine, playOf};
 ghost use Rattle.console_session.specs.Session.{saidOf, Speaks};
-ghost use Rattle.capi_script.specs.Scripted.{firstLine, playOf};
-
-// What stands from a place on.
-fn behind(script: &[u8], from: usize) -> &[u8]
-    ensures { λ r. ⌜ now r ≡ drop from (now (script .entry)) ⌝ }
-{
-    if script.len() <= from {
-        return &script[0..0];
-    }
-    &script[from..]
-}
 
 // The first line.
 fn first_line(rest: &[u8]) -> &[u8]
@@ -58,7 +49,7 @@ pub extern "C" fn khaonuat_script(script: &[u8], out: &mut [u8]) -> usize
     let mut from = 0;
     let mut end = 0;
     while from < script.len() {
-        let rest = behind(script, from);
+        let rest = parts::behind(script, from);
         let told = answer_first(device, rest, out, end);
         device = told.device;
         end = told.end;

@@ -1,6 +1,6 @@
 // Drives one unit from a script on standard input and prints the answers.
-use console_dialogue as dialogue;
+use console_stream as stream;
 
 fn main() {
-    dialogue::hold(usize::MAX);
+    stream::hold();
 }

@@ -1,155 +1,144 @@
-// The console over standard input and output: each line is answered by one unit. What waits is written before the program waits
-// for a line.
+// The console over a script that comes in pieces: each line that is whole is answered by one unit, and its answer put into a buffer that
+// the caller lends.
 //
 // The contracts cite `specs/Dialogue.antt`.
-use console_phrases as phrases;
-use console_readline as readline;
-use console_readline::Line;
-use console_replies as replies;
+use console_intake as intake;
+use console_intake::LINE;
+use console_intake::Line;
 use console_session as session;
 use console_session::Spoken;
 use device_2250 as device;
 use device_2250::Device;
 use ground_setup::Size;
-use text_output as output;
-use text_output::Output;
-use text_parse as parse;
-use text_window as window;
-use text_window::Window;
+use text_parts as parts;
 ghost use mathlib.Core.Path.{_≡_};
-ghost use Prim.Native.Nat.{_≤_, _<_};
-ghost use lib.ListN.{length};
-ghost use Rattle.bytes.specs.Bytes.{indexOf};
-ghost use Rattle.text_window.specs.Window.{heldOf};
-ghost use Rattle.console_session.specs.Session.{Speaks};
-ghost use Rattle.console_dialogue.specs.Dialogue.{saidAt, windowBehind, endOfInput, Taken, Turned};
+ghost use mathlib.Core.Bool.{cond};
+ghost use mathlib.Core.List.{[]};
+ghost use Prim.Native.Nat.{_+_, _≤_, _<_};
+ghost use lib.ListN.{length, take};
+ghost use Rattle.text_put.specs.Text.{putAt, endOf};
+ghost use Rattle.console_session.specs.Session.{saidOf, Speaks};
+ghost use Rattle.console_dialogue.specs.Dialogue.{firstDialogue, toCome, TakesIn, LeavesOver};
 
-// Where the dialogue stands behind a line, and whether there was none.
-struct Turn {
+// The unit between two pieces, and how many bytes of the line that is open are kept.
+pub struct Dialogue {
+    pub device: Device,
+    pub seen: usize,
+}
+
+// What feeding a piece came to: the dialogue behind it, how many of its bytes were used, and where the text in the buffer ends.
+pub struct Taken {
+    pub dialogue: Dialogue,
+    pub used: usize,
+    pub end: usize,
+}
+
+// A fresh unit of 4,096, and no line open.
+pub fn begin() -> Dialogue
+    ensures { λ r. ⌜ r ≡ firstDialogue ⌝ }
+{
+    Dialogue {
+        device: device::fresh(Size::K4),
+        seen: 0,
+    }
+}
+
+// Answers a line that was found in a piece, or in what is kept.
+fn answer_found(
     device: Device,
-    window: Window,
-    output: Output,
-    over: bool,
-}
-
-// Answers what stands where a line was due.
-fn answer_at(device: Device, input: &[u8], line: Line, lines: &mut [u8], at: usize) -> Spoken
-    ensures { λ r. ⌜ Speaks (saidAt device (now (input .entry)) line) (now (lines .entry)) at (now (lines .exit)) r ⌝ }
+    kept: &[u8],
+    piece: &[u8],
+    direct: bool,
+    count: usize,
+    out: &mut [u8],
+    at: usize,
+) -> Spoken
+    ensures { λ r. ⌜ Speaks (saidOf device (take count (cond direct (now (piece .entry)) (now (kept .entry))))) (now (out .entry)) at (now (out .exit)) r ⌝ }
 {
-    match line {
-        Line::Whole(count, window) => {
-            let text = window::first(window::held(input, window), count);
-            session::answer(device, text, lines, at)
-        }
-        Line::Long(_) => {
-            let end = replies::put_error(lines, at);
-            Spoken { device, end }
-        }
-        Line::End => {
-            let end = phrases::put_nothing(lines, at);
-            Spoken { device, end }
-        }
+    if direct {
+        return session::answer(device, parts::first(piece, count), out, at);
     }
+    session::answer(device, parts::first(kept, count), out, at)
 }
 
-// The window behind a line.
-fn window_behind(line: Line) -> Window
-    ensures { λ r. ⌜ r ≡ windowBehind line ⌝ }
+// Takes in the first line of a piece, or what there is of it, where its answer finds room.
+fn advance(
+    dialogue: Dialogue,
+    kept: &mut [u8; LINE],
+    piece: &[u8],
+    out: &mut [u8],
+    at: usize,
+) -> Taken
+    requires { ⌜ (at + 471200 ≤ length (now out)) × (0 < length (now piece)) ⌝ }
+    ensures { λ r. ⌜ TakesIn dialogue (now (kept .entry)) (now (piece .entry)) (now (out .entry)) at r (now (kept .exit)) (now (out .exit)) ⌝ }
+    ensures { λ r. ⌜ 0 < r .used ⌝ }
 {
+    let device = dialogue.device;
+    let line = intake::next(dialogue.seen, kept, piece);
     match line {
-        Line::Whole(count, window) => window::past(window::past(window, count), 1),
-        Line::Long(window) => window,
-        Line::End => Window { from: 0, end: 0 },
-    }
-}
-
-// Whether there is no line.
-fn is_end(line: Line) -> bool
-    ensures { λ r. ⌜ r ≡ endOfInput line ⌝ }
-{
-    match line {
-        Line::Whole(_, _) => false,
-        Line::Long(_) => false,
-        Line::End => true,
-    }
-}
-
-// Answers a line where 262,144 bytes are free.
-fn take_turn(device: Device, input: &[u8], line: Line, lines: &mut [u8], output: Output) -> Turn
-    ensures { λ r. ⌜ Taken (saidAt device (now (input .entry)) line) (now (lines .entry)) (now (lines .exit)) (r .device) (r .output) ⌝ }
-    ensures { λ r. ⌜ (r .window ≡ windowBehind line) × (r .over ≡ endOfInput line) ⌝ }
-{
-    let ready = output::room(lines, output, 262144);
-    let told = answer_at(device, input, line, lines, ready.at);
-    let after = told.device;
-    Turn {
-        device: after,
-        window: window_behind(line),
-        output: Output {
-            at: told.end,
-            open: ready.open,
+        Line::Whole {
+            direct,
+            count,
+            used,
+        } => {
+            let told = answer_found(device, kept, piece, direct, count, out, at);
+            let after = told.device;
+            Taken {
+                dialogue: Dialogue {
+                    device: after,
+                    seen: 0,
+                },
+                used,
+                end: told.end,
+            }
+        }
+        Line::Open(seen) => Taken {
+            dialogue: Dialogue { device, seen },
+            used: piece.len(),
+            end: at,
         },
-        over: is_end(line),
     }
 }
 
-// Writes what waits where the program is about to wait for a line.
-fn before_read(input: &[u8], window: Window, lines: &[u8], output: Output) -> Output
-    ensures { λ r. ⌜ (indexOf 10 (heldOf (now (input .entry)) window) < length (heldOf (now (input .entry)) window) → r ≡ output) ⌝ }
+// Feeds a piece: the answers of the lines that are whole stand one behind the other at the front of the buffer. Stops before the
+// piece's end only where fewer than 471,200 bytes are free.
+pub fn feed(dialogue: Dialogue, kept: &mut [u8; LINE], piece: &[u8], out: &mut [u8]) -> Taken
+    ensures { λ r. ⌜ TakesIn dialogue (now (kept .entry)) (now (piece .entry)) (now (out .entry)) 0 r (now (kept .exit)) (now (out .exit)) ⌝ }
+    ensures { λ r. ⌜ LeavesOver (now (piece .entry)) (now (out .entry)) r ⌝ }
 {
-    let held = window::held(input, window);
-    if parse::index_of(b'\n', held) < held.len() {
-        return output;
-    }
-    output::flush(lines, output)
-}
-
-// Reads the next line and answers it.
-fn next_turn(
-    device: Device,
-    input: &mut [u8],
-    window: Window,
-    lines: &mut [u8],
-    output: Output,
-) -> Turn
-    ensures { λ r. ⌜ Turned device (now (input .entry)) window (now (input .exit)) (now (lines .entry)) (now (lines .exit)) r ⌝ }
-{
-    let ready = before_read(input, window, lines, output);
-    let line = readline::read_line(input, window);
-    take_turn(device, input, line, lines, ready)
-}
-
-// Answers lines until the input ends, the output is shut or `most` are answered.
-fn hold_in(input: &mut [u8], lines: &mut [u8], most: usize) -> usize
-    ensures { λ r. ⌜ r ≤ most ⌝ }
-{
-    let mut device = device::fresh(Size::K4);
-    let mut window = Window { from: 0, end: 0 };
-    let mut output = Output { at: 0, open: true };
-    let mut number = 0;
-    while number < most {
-        let turn = next_turn(device, input, window, lines, output);
-        device = turn.device;
-        window = turn.window;
-        output = turn.output;
-        if turn.over {
-            output::flush(lines, output);
-            return number;
+    let mut state = dialogue;
+    let mut used = 0;
+    let mut end = 0;
+    while used < piece.len() {
+        if out.len() - end < 471200 {
+            return Taken {
+                dialogue: state,
+                used,
+                end,
+            };
         }
-        number += 1;
-        if !output.open {
-            return number;
-        }
+        let next = advance(state, kept, parts::behind(piece, used), out, end);
+        state = next.dialogue;
+        used += next.used;
+        end = next.end;
     }
-    output::flush(lines, output);
-    number
+    Taken {
+        dialogue: state,
+        used,
+        end,
+    }
 }
 
-// Answers the lines of standard input, `most` at most, with a fresh unit of 4,096, and tells how many there were.
-pub fn hold(most: usize) -> usize
-    ensures { λ r. ⌜ r ≤ most ⌝ }
+// The end of the script: the last line is answered where it wants its newline.
+pub fn close(dialogue: Dialogue, kept: &[u8; LINE], out: &mut [u8]) -> usize
+    ensures { λ r. ⌜ r ≡ endOf (now (out .entry)) 0 (toCome dialogue (now (kept .entry)) []) ⌝ }
+    ensures { λ _. ⌜ now (out .exit) ≡ putAt (now (out .entry)) 0 (toCome dialogue (now (kept .entry)) []) ⌝ }
 {
-    let mut input = [0u8; 65536];
-    let mut lines = [0u8; 524288];
-    hold_in(&mut input, &mut lines, most)
+    let line = intake::open_line(kept, dialogue.seen);
+    if line.len() == 0 {
+        return 0;
+    }
+    let device = dialogue.device;
+    let told = session::answer(device, line, out, 0);
+    told.end
 }

@@ -1,13 +1,11 @@
 -- Texts looked through from the left: what is left of them gives the whole answer.
-use Prim.Native.Nat.{ℕ, suc, _+_, _-_, _<_}
+use Prim.Native.Nat.{ℕ, suc, _+_, _<_}
 use mathlib.Core.Path.{_≡_, refl, ap}
 use mathlib.Core.Bool.{Bool, true, false, cond}
 use mathlib.Core.List.{List, [], _∷_}
-use native.Mathlib.Omega.{arith}
 use native.Mathlib.Numerals.{add-one}
-use lib.ListN.{length, getD, drop, length-drop}
-use lib.Seq.{drop-cons, take-all}
-use lib.ListN.{take}
+use lib.ListN.{length, getD, drop}
+use lib.Seq.{drop-cons}
 use lib.Dec.{eqb}
 use borrow.Author.Tests.{ne-eqb, eq-eqb}
 use Rattle.console_script.specs.Script.{same}
@@ -32,7 +30,3 @@ module _ (a b : List ℕ) (i : ℕ) (in-a : i < length a) (in-b : i < length b) 
   pub letters-agree : getD a i 0 ≡ getD b i 0 → same (drop i a) (drop i b) ≡ same (drop (i + 1) a) (drop (i + 1) b)
   unfolding same
   letters-agree h = rw (add-one, drop-cons a i 0, drop-cons b i 0, eq-eqb (getD a i 0) (getD b i 0) h)
-
--- all of a text behind a place
-pub to-the-end : (line : List ℕ) (from : ℕ) → take (length line - from) (drop from line) ≡ drop from line
-to-the-end line from = take-all (length line - from) (drop from line) (omega (arith, length-drop from line))

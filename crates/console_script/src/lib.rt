@@ -3,6 +3,7 @@
 // The contracts cite `specs/Script.antt`.
 use text_digits as digits;
 use text_parse as parse;
+use text_parts as parts;
 ghost use mathlib.Core.Path.{_≡_};
 ghost use Prim.Native.Nat.{_+_, _<_};
 ghost use Rattle.console_script.specs.Script.{firstWord, restOf, lone as Script·lone, same as Script·same, areBytes, areWords, areSights, upTo, freshRequest, loadRequest, loadIn, commandRequest, roomIn, commandIn, runRequest, runIn, rangeRequest, rangeIn, codeIn, keyIn, arguedOf, plainOf, requestOf};
@@ -39,11 +40,8 @@ pub fn rest_of(line: &[u8]) -> &[u8]
     ensures { λ r. ⌜ now r ≡ restOf (now (line .entry)) ⌝ }
 {
     let end = parse::index_of(b' ', line);
-    if end < line.len() {
-        let from = end + 1;
-        return &line[from..];
-    }
-    &line[end..]
+    let from = end + 1;
+    parts::behind(line, from)
 }
 
 // Whether a line is one word.

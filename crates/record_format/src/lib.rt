@@ -1,9 +1,10 @@
-// A record of an input: payload length (4 bytes), kind (2 bytes), payload, little-endian. How one is read, and how one
-// of kind 1 is made.
+// A record of an input, read: payload length (4 bytes), kind (2 bytes), payload, little-endian.
+//
+// The contracts cite `specs/Records.antt`.
 use ground_refusals::Refusal;
 ghost use mathlib.Core.Path.{_≡_};
-ghost use Prim.Native.Nat.{_+_, _*_, _%_, _<_};
-ghost use Rattle.record_format.specs.Records.{headerOf, cutOf, payloadOf, openingOf};
+ghost use Prim.Native.Nat.{_+_, _*_, _<_, _≤_};
+ghost use Rattle.record_format.specs.Records.{headerOf, HeaderWithin, kindRow, cutOf, payloadOf};
 
 // What stands where a header was due.
 pub enum Header {
@@ -18,6 +19,12 @@ pub enum Payload {
     Refused(Refusal),
 }
 
+// A row of the table of kinds: whether the kind is known, and how many bytes of its payload a record can need.
+pub struct Kind {
+    pub known: bool,
+    pub needed: usize,
+}
+
 // Two bytes as a number, the low one first.
 fn two(low: u8, high: u8) -> usize
     ensures { λ r. ⌜ (r ≡ low + 256 * high) × (r < 65536) ⌝ }
@@ -27,7 +34,7 @@ fn two(low: u8, high: u8) -> usize
 
 // What the bytes that the input had for a header are: at most six are looked at.
 pub fn read_header(bytes: &[u8]) -> Header
-    ensures { λ r. ⌜ r ≡ headerOf (now (bytes .entry)) ⌝ }
+    ensures { λ r. ⌜ (r ≡ headerOf (now (bytes .entry))) × HeaderWithin r ⌝ }
 {
     if bytes.len() == 0 {
         return Header::End;
@@ -40,14 +47,30 @@ pub fn read_header(bytes: &[u8]) -> Header
     Header::Record { length, kind }
 }
 
+// The row of a kind.
+pub fn kind_row(kind: usize) -> Kind
+    ensures { λ r. ⌜ (r ≡ kindRow kind) × (r .needed ≤ 0x8005) ⌝ }
+{
+    if kind == 1 {
+        return Kind {
+            known: true,
+            needed: 0x8005,
+        };
+    }
+    Kind {
+        known: false,
+        needed: 0,
+    }
+}
+
 // Why a record whose payload is cut is refused.
 pub fn read_cut(kind: usize) -> Refusal
     ensures { λ r. ⌜ r ≡ cutOf kind ⌝ }
 {
-    if kind != 1 {
-        return Refusal::UnknownKind;
+    if kind_row(kind).known {
+        return Refusal::CutOrShort;
     }
-    Refusal::CutOrShort
+    Refusal::UnknownKind
 }
 
 // What a whole payload of this kind is. Its start is enough: what stands behind size and start is not looked at.
@@ -63,30 +86,4 @@ pub fn read_payload(kind: usize, payload: &[u8]) -> Payload
     let size = two(payload[0], payload[1]);
     let start = two(payload[2], payload[3]);
     Payload::Image { size, start }
-}
-
-// The low byte of a number.
-fn low(n: usize) -> u8
-    ensures { λ r. ⌜ r ≡ n % 256 ⌝ }
-{
-    (n % 256) as u8
-}
-
-// The ten bytes that stand before an image of `length` bytes in a record of kind 1.
-pub fn opening_of(length: u16, size: u16, start: u16) -> [u8; 10]
-    ensures { λ r. ⌜ r ≡ openingOf length size start ⌝ }
-{
-    let payload = length as usize + 4;
-    [
-        low(payload),
-        low(payload / 256),
-        low(payload / 65536),
-        0,
-        1,
-        0,
-        low(size as usize),
-        low(size as usize / 256),
-        low(start as usize),
-        low(start as usize / 256),
-    ]
 }

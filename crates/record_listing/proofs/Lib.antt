@@ -1,2 +1,3 @@
 pub mod Laws
-pub mod Long
+pub mod Stream
+pub mod Example

@@ -1,87 +1,52 @@
--- What is printed for a record (01, "Records and the printed verdict").
-use Prim.Native.Nat.{ℕ, _+_, _-_, _≤_, min}
+-- The listing of an input that comes in pieces (01, "Records and the printed verdict").
+use Prim.Native.Nat.{ℕ, _+_, _≤_, _<_}
 use mathlib.Core.Path.{_≡_}
-use mathlib.Core.List.{List}
-use lib.ListN.{length}
-use Rattle.text_put.specs.Text.{putAt, endOf}
+use mathlib.Core.List.{List, [], _++_}
+use mathlib.Core.Logic.{_⊎_}
+use lib.ListN.{length, take, drop, replicate}
 use Rattle.ground_refusals.specs.Refusals.{refusalNumber}
-use Rattle.record_format.specs.Records.{headerOf, cutOf}
-use Rattle.ground_refusals.specs.declared.Refusal.the-variants.{CutOrShort}
+use Rattle.record_format.specs.Records.{cutOf}
 use Rattle.record_format.specs.declared.Header.{Header}
-use Rattle.record_format.specs.declared.Header.the-variants as head
-use Rattle.record_format.specs.declared.Payload.{Payload}
-use Rattle.record_format.specs.declared.Payload.the-variants as payload
-use Rattle.text_window.specs.Window.{heldOf, pastOf}
-use Rattle.text_window.specs.declared.Window.{Window}
-use Rattle.text_output.specs.declared.Output.{Output}
-use Rattle.record_lines.specs.Lines.{passedLine, faultLine, refusedLine}
-use Rattle.validator_verdict.specs.Verdict.{Values, triedOf, Judged}
-use Rattle.record_listing.specs.declared.Entry.{Entry}
-use Rattle.record_listing.specs.declared.Entry.the-variants as entry
+use Rattle.record_format.specs.declared.Header.the-variants.{Record, Cut, End}
+use Rattle.record_lines.specs.Lines.{refusedLine}
+use Rattle.record_intake.specs.Intake.{OpenRecord, openAt}
+use Rattle.record_intake.specs.Printed.{Printed, Told}
+use Rattle.record_answer.specs.Answer.{RecordLine}
+use Rattle.record_listing.specs.declared.ListingAt.{ListingAt}
+use Rattle.record_listing.specs.declared.Fed.{Fed}
 
--- "An image too long is skipped over": of a payload, size, start and one byte more than any buffer has are kept
-abbrev pub keptLength : ℕ → ℕ
-keptLength length = min length 0x8005
+-- WHAT IS PRINTED for a whole input: "a line per record: its number from 1"
+abbrev pub PrintedFor : List ℕ → List ℕ → Type 0
+PrintedFor input text = Printed RecordLine 1 input text
 
--- "a header cut short is refused 6"; nothing at all prints nothing
-abbrev pub headerEnded : Header → Entry
-headerEnded (head.Record length kind) = entry.End
-headerEnded head.Cut = entry.Cut CutOrShort
-headerEnded head.End = entry.End
+-- what is printed where the input ends, by what stands where a header was due
+abbrev pub lastLine : ℕ → Header → List ℕ
+lastLine number (Record n kind) = refusedLine number (refusalNumber (cutOf kind))
+lastLine number Cut = refusedLine number 6
+lastLine number End = []
 
--- a record of a kind: a whole one, or a cut one with its kind's refusal
-abbrev pub KindTold : ℕ → Entry → Type 0
-KindTold kind (entry.Whole found count window) = found ≡ kind
-KindTold kind (entry.Cut refusal) = refusal ≡ cutOf kind
-KindTold kind entry.End = ⊥
+-- from the bytes of an open record and a piece the listing comes to those of another: the text is told
+pub record Comes (l : ListingAt) (s piece text : List ℕ) (f : Fed) (kept : List ℕ) : Type 0 where
+  pub bytes : List ℕ
+  pub opened : OpenRecord (openAt (f .listing .seen) kept) kept bytes
+  pub told : Told RecordLine (l .number) s piece text (f .listing .number) bytes (drop (f .used) piece)
 
--- what is found where a payload of n bytes was due: it is there, or a cut record is told by its kind; one that the window
--- holds whole is found with nothing read
-pub record Rest (before : List ℕ) (window : Window) (n kind : ℕ) (after : List ℕ) (found : Entry) : Type 0 where
-  pub told : KindTold kind found
-  pub whole : n ≤ length (heldOf before window) → (after ≡ before) × (found ≡ entry.Whole kind n window)
+-- A PIECE IS TAKEN IN as far as it is used: a text is put from a place on, nothing else of the buffer is touched, and it is what is
+-- told of the piece, whichever bytes of the open record came before; each record has a byte at least
+pub record Feeds (l : ListingAt) (kept piece out : List ℕ) (at : ℕ) (f : Fed) (kept′ out′ : List ℕ) : Type 0 where
+  pub text : List ℕ
+  pub put : take (f .end) out′ ≡ take at out ++ text
+  pub beyond : drop (f .end) out′ ≡ drop (f .end) out
+  pub ends : (at ≤ f .end) × (f .end ≤ length out)
+  pub within : f .used ≤ length piece
+  pub numbers : f .listing .number ≤ l .number + f .used
+  pub comes : (s : List ℕ) → OpenRecord (openAt (l .seen) kept) kept s → Comes l s piece text f kept′
 
--- what is found where a record was due: one that the window holds whole is found with nothing read
-pub record RecordFound (before : List ℕ) (window : Window) (after : List ℕ) (found : Entry) : Type 0 where
-  pub whole : (n kind : ℕ) → headerOf (heldOf before window) ≡ head.Record n kind
-      → 6 + n ≤ length (heldOf before window)
-      → (after ≡ before) × (found ≡ entry.Whole kind n (pastOf window 6))
+-- a working store is left as it was, or zero
+abbrev pub StoreLeft : List ℕ → List ℕ → Type 0
+StoreLeft store store′ = (store′ ≡ store) ⊎ (store′ ≡ replicate 32768 0)
 
--- the line of a verdict, in 01's numbers
-abbrev pub verdictLine : ℕ → Values → List ℕ
-verdictLine number (Values.passed places) = passedLine number places
-verdictLine number (Values.fault fault address steps) = faultLine number fault address steps
-verdictLine number (Values.refused refusal) = refusedLine number refusal
-
--- what is printed for a whole record, and left of the working store: the record's refusal, or the verdict on its image
-abbrev pub LineOf : Payload → List ℕ → ℕ → List ℕ → List ℕ → List ℕ → Type 0
-LineOf (payload.Refused refusal) image number store store′ line =
-    (line ≡ refusedLine number (refusalNumber refusal)) × (store′ ≡ store)
-LineOf (payload.Image size start) image number store store′ line =
-    (values : Values)
-    × (Judged (triedOf size (length image) start (length store)) image start store store′ values)
-    × (line ≡ verdictLine number values)
-
--- a call that puts that line into a buffer
-pub record LineAnswered (payload : Payload) (image : List ℕ) (number : ℕ) (store store′ buffer : List ℕ) (at : ℕ) (after : List ℕ) (end : ℕ) : Type 0 where
-  pub line : List ℕ
-  pub right : LineOf payload image number store store′ line
-  pub ends : end ≡ endOf buffer at line
-  pub stands : after ≡ putAt buffer at line
-
--- a call that puts that line where 128 bytes are free, which is more than any line has
-pub record LineListed (payload : Payload) (image : List ℕ) (number : ℕ) (store store′ buffer after : List ℕ) (end : ℕ) : Type 0 where
-  pub at : ℕ
-  pub free : at ≤ length buffer - 128
-  pub answered : LineAnswered payload image number store store′ buffer at after end
-
--- what is put where the listing ends: a cut record's refusal, or nothing; then all is written
-abbrev pub LastLine : Entry → ℕ → List ℕ → List ℕ → Type 0
-LastLine (entry.Whole kind count window) number buffer after = after ≡ buffer
-LastLine (entry.Cut refusal) number buffer after =
-    (at : ℕ) × (at ≤ length buffer - 128) × (after ≡ putAt buffer at (refusedLine number (refusalNumber refusal)))
-LastLine entry.End number buffer after = after ≡ buffer
-
-pub record Ended (found : Entry) (number : ℕ) (buffer after : List ℕ) (output : Output) : Type 0 where
-  pub line : LastLine found number buffer after
-  pub written : output .at ≡ 0
+-- a piece is left over only where a line finds no room, or a record no number; where there is room at first some of it is used
+pub record Stops (l : ListingAt) (piece out : List ℕ) (f : Fed) : Type 0 where
+  pub all : f .end + 128 ≤ length out → f .listing .number < 18446744073709551615 → f .used ≡ length piece
+  pub some : 128 ≤ length out → l .number < 18446744073709551615 → 0 < length piece → 0 < f .used

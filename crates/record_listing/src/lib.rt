@@ -1,255 +1,205 @@
-// The listing of verdicts: reads records from standard input through a window of fixed size, and prints a line for each on
-// standard output.
-use ground_look as look;
+// The listing of records that come in pieces: takes in a piece, and puts a line for each record that is whole.
+//
+// The contracts cite `specs/Listing.antt`.
 use ground_refusals as refusals;
+use record_answer as answer;
 use record_format as records;
+use record_format::Header;
+use record_intake as intake;
+use record_intake::Entry;
+use record_intake::KEPT;
 use record_lines as lines;
-use text_input as input;
-use text_output as output;
-use text_window as window;
-use validator_store as store;
-use validator_verdict as validator;
+use text_parts as parts;
 ghost use mathlib.Core.Path.{_≡_};
-ghost use Rattle.ground_refusals.specs.Refusals.{refusalNumber};
-ghost use Prim.Native.Nat.{ℕ, _≤_};
+ghost use mathlib.Core.Bool.{cond};
+ghost use Prim.Native.Nat.{_+_, _≤_, _<_};
 ghost use lib.ListN.{length, take, drop};
 ghost use Rattle.text_put.specs.Text.{putAt, endOf};
-ghost use Rattle.record_format.specs.Records.{payloadOf};
-ghost use Rattle.text_window.specs.Window.{heldOf, pastOf};
-ghost use Rattle.validator_verdict.specs.Verdict.{valuesOf};
-ghost use Rattle.record_listing.specs.Listing.{keptLength, headerEnded, Rest, RecordFound, verdictLine, LineAnswered, LineListed, Ended};
-use ground_refusals::Refusal;
-use record_format::Header;
-use record_format::Payload;
-use text_output::Output;
-use text_window::Window;
-use validator_verdict::Verdict;
+ghost use Rattle.record_format.specs.Records.{kindIn, headerOf, payloadOf};
+ghost use Rattle.record_intake.specs.Intake.{openAt};
+ghost use Rattle.record_answer.specs.Answer.{LineAnswered};
+ghost use Rattle.record_listing.specs.Listing.{lastLine, Feeds, StoreLeft, Stops};
 
-// What is found where a record was due.
-enum Entry {
-    // All of a record: its kind, and how many bytes of its payload stand at the front of the window.
-    Whole(usize, usize, Window),
-    // A record that is cut, which ends the listing.
-    Cut(Refusal),
-    // Nothing more.
-    End,
+// Where a listing stands between two pieces: the number of the record that is open, and how many bytes of it have come.
+pub struct ListingAt {
+    pub number: usize,
+    pub seen: usize,
 }
 
-// Where the listing stands behind a record.
-struct Turn {
-    window: Window,
-    output: Output,
+// Where it stands behind a piece: how many bytes of it were used, and where the text that was put ends.
+pub struct Fed {
+    pub listing: ListingAt,
+    pub used: usize,
+    pub end: usize,
 }
 
-// The number that a refusal is printed as.
-fn number_of(refusal: Refusal) -> usize
-    ensures { λ r. ⌜ r ≡ refusalNumber refusal ⌝ }
+// Nothing was taken in.
+pub fn begin() -> ListingAt
+    ensures { λ r. ⌜ r ≡ record { number = 1; seen = 0 } ⌝ }
 {
-    refusals::refusal_number(refusal) as usize
+    ListingAt { number: 1, seen: 0 }
 }
 
-// How many bytes of a payload are kept: size, start and one byte more than any buffer has.
-fn kept(length: usize) -> usize
-    ensures { λ r. ⌜ r ≡ keptLength length ⌝ }
+// Puts the line of a whole record, by its first bytes.
+fn put_line(out: &mut [u8], at: usize, number: usize, whole: &[u8], store: &mut [u8]) -> usize
+    requires { ⌜ 6 ≤ length (now whole) ⌝ }
+    ensures { λ r. ⌜ LineAnswered (payloadOf (kindIn (now (whole .entry))) (drop 6 (now (whole .entry)))) (drop 10 (now (whole .entry))) number (now (store .entry)) (now (store .exit)) (now (out .entry)) at (now (out .exit)) r ⌝ }
 {
-    if length < 0x8005 { length } else { 0x8005 }
-}
-
-// What is found where no header stands.
-fn without_head(head: Header) -> Entry
-    ensures { λ r. ⌜ r ≡ headerEnded head ⌝ }
-{
-    match head {
-        Header::Record { length: _, kind: _ } => Entry::End,
-        Header::Cut => Entry::Cut(Refusal::CutOrShort),
-        Header::End => Entry::End,
-    }
-}
-
-// Reads a payload, and passes over what is not kept of it.
-fn read_rest(input: &mut [u8], window: Window, length: usize, kind: usize) -> Entry
-    ensures { λ r. ⌜ Rest (now (input .entry)) window length kind (now (input .exit)) r ⌝ }
-{
-    let next = input::fill(input, window, kept(length));
-    let count = window::held(input, next).len();
-    if length <= count {
-        return Entry::Whole(kind, length, next);
-    }
-    if input::skip(length - count) {
-        return Entry::Whole(kind, count, next);
-    }
-    Entry::Cut(records::read_cut(kind))
-}
-
-// Reads the next record.
-fn read_record(input: &mut [u8], window: Window) -> Entry
-    ensures { λ r. ⌜ RecordFound (now (input .entry)) window (now (input .exit)) r ⌝ }
-{
-    let next = input::fill(input, window, 6);
-    let head = records::read_header(window::held(input, next));
-    let Header::Record { length, kind } = head else {
-        return without_head(head);
+    let Header::Record { length: _, kind } = records::read_header(whole) else {
+        return at;
     };
-    read_rest(input, window::past(next, 6), length, kind)
+    answer::put_answer(out, at, number, kind, parts::behind(whole, 6), store)
 }
 
-// The image in a payload of kind 1.
-fn image_of(payload: &[u8]) -> &[u8]
-    ensures { λ r. ⌜ now r ≡ drop 4 (now (payload .entry)) ⌝ }
-{
-    if payload.len() < 4 {
-        return &payload[0..0];
-    }
-    &payload[4..]
-}
-
-// Puts the line of a verdict.
-fn put_verdict(lines: &mut [u8], at: usize, number: usize, verdict: Verdict) -> usize
-    ensures { λ r. ⌜ r ≡ endOf (now (lines .entry)) at (verdictLine number (valuesOf verdict)) ⌝ }
-    ensures { λ _. ⌜ now (lines .exit) ≡ putAt (now (lines .entry)) at (verdictLine number (valuesOf verdict)) ⌝ }
-{
-    match verdict {
-        Verdict::Passed(places) => lines::put_passed(lines, at, number, places),
-        Verdict::Fault(fault, address, steps) => lines::put_fault(
-            lines,
-            at,
-            number,
-            look::fault_number(fault) as usize,
-            address,
-            steps,
-        ),
-        Verdict::Refused(refusal) => {
-            lines::put_refused(
-                lines,
-                at,
-                number,
-                refusals::refusal_number(refusal) as usize,
-            )
-        }
-    }
-}
-
-// Puts the line of a whole record.
-fn put_answer(
-    lines: &mut [u8],
+// Puts the line of a whole record, whose first bytes stand at the front of the piece or of what is kept.
+fn put_found(
+    out: &mut [u8],
     at: usize,
     number: usize,
-    kind: usize,
-    payload: &[u8],
+    kept: &[u8],
+    piece: &[u8],
+    direct: bool,
+    count: usize,
     store: &mut [u8],
 ) -> usize
-    ensures { λ r. ⌜ LineAnswered (payloadOf kind (now (payload .entry))) (drop 4 (now (payload .entry))) number (now (store .entry)) (now (store .exit)) (now (lines .entry)) at (now (lines .exit)) r ⌝ }
+    requires { ⌜ 6 ≤ length (take count (cond direct (now piece) (now kept))) ⌝ }
+    ensures { λ r. ⌜ LineAnswered (payloadOf (kindIn (take count (cond direct (now (piece .entry)) (now (kept .entry))))) (drop 6 (take count (cond direct (now (piece .entry)) (now (kept .entry)))))) (drop 10 (take count (cond direct (now (piece .entry)) (now (kept .entry))))) number (now (store .entry)) (now (store .exit)) (now (out .entry)) at (now (out .exit)) r ⌝ }
 {
-    match records::read_payload(kind, payload) {
-        Payload::Refused(refusal) => { lines::put_refused(lines, at, number, number_of(refusal)) }
-        Payload::Image { size, start } => {
-            let verdict = validator::validate(image_of(payload), size, start, store);
-            put_verdict(lines, at, number, verdict)
-        }
+    if direct {
+        return put_line(out, at, number, parts::first(piece, count), store);
     }
+    put_line(out, at, number, parts::first(kept, count), store)
 }
 
-// Puts the line of a whole record, where there is room for one.
-fn list_line(
-    lines: &mut [u8],
-    output: Output,
-    number: usize,
-    kind: usize,
-    payload: &[u8],
+// Takes in a piece until a record is whole, and puts its line.
+fn step(
+    listing: ListingAt,
+    kept: &mut [u8; KEPT],
+    piece: &[u8],
+    out: &mut [u8],
+    at: usize,
     store: &mut [u8],
-) -> Output
-    ensures { λ r. ⌜ LineListed (payloadOf kind (now (payload .entry))) (drop 4 (now (payload .entry))) number (now (store .entry)) (now (store .exit)) (now (lines .entry)) (now (lines .exit)) (r .at) ⌝ }
+) -> Fed
+    requires { ⌜ (listing .number < 18446744073709551615) × (at + 128 ≤ length (now out)) × (length (now store) ≡ 32768) × (0 < length (now piece)) ⌝ }
+    ensures { λ r. ⌜ Feeds listing (now (kept .entry)) (now (piece .entry)) (now (out .entry)) at r (now (kept .exit)) (now (out .exit)) ⌝ }
+    ensures { λ r. ⌜ StoreLeft (now (store .entry)) (now (store .exit)) × (0 < r .used) ⌝ }
 {
-    let ready = output::room(lines, output, 128);
-    let at = put_answer(lines, ready.at, number, kind, payload, store);
-    Output {
-        at,
-        open: ready.open,
-    }
-}
-
-// Writes what waits where the program is about to wait for a header.
-fn before_read(input: &[u8], window: Window, lines: &[u8], output: Output) -> Output
-    ensures { λ r. ⌜ (6 ≤ length (heldOf (now (input .entry)) window) → r ≡ output) ⌝ }
-{
-    if window::held(input, window).len() < 6 {
-        return output::flush(lines, output);
-    }
-    output
-}
-
-// Lists a whole record, the first `count` bytes of whose payload stand at the front of the window.
-fn list_whole(
-    input: &[u8],
-    window: Window,
-    count: usize,
-    kind: usize,
-    number: usize,
-    lines: &mut [u8],
-    output: Output,
-    store: &mut [u8],
-) -> Turn
-    ensures { λ r. ⌜ r .window ≡ pastOf window count ⌝ }
-    ensures { λ _. ⌜ ((end : ℕ) × LineListed (payloadOf kind (take count (heldOf (now (input .entry)) window))) (drop 4 (take count (heldOf (now (input .entry)) window))) number (now (store .entry)) (now (store .exit)) (now (lines .entry)) (now (lines .exit)) end) ⌝ }
-{
-    let payload = window::first(window::held(input, window), count);
-    let listed = list_line(lines, output, number, kind, payload, store);
-    let next = window::past(window, count);
-    Turn {
-        window: next,
-        output: before_read(input, next, lines, listed),
-    }
-}
-
-// Ends the listing: a cut record has a line, the end of the input has none.
-fn list_last(lines: &mut [u8], output: Output, number: usize, entry: Entry) -> Output
-    ensures { λ r. ⌜ Ended entry number (now (lines .entry)) (now (lines .exit)) r ⌝ }
-{
-    let Entry::Cut(refusal) = entry else {
-        return output::flush(lines, output);
-    };
-    let ready = output::room(lines, output, 128);
-    let at = lines::put_refused(lines, ready.at, number, number_of(refusal));
-    output::flush(
-        lines,
-        Output {
-            at,
-            open: ready.open,
-        },
-    )
-}
-
-// Lists records until one is cut, the input ends, the output is shut or `most` are listed.
-fn list_in(input: &mut [u8], lines: &mut [u8], store: &mut [u8], most: usize) -> usize
-    ensures { λ r. ⌜ r ≤ most ⌝ }
-{
-    let mut window = Window { from: 0, end: 0 };
-    let mut output = Output { at: 0, open: true };
-    let mut number = 0;
-    while number < most {
-        let entry = read_record(input, window);
-        let Entry::Whole(kind, count, held) = entry else {
-            list_last(lines, output, number + 1, entry);
-            return number;
+    let number = listing.number;
+    let entry = intake::next(listing.seen, kept, piece);
+    let Entry::Whole {
+        direct,
+        count,
+        used,
+    } = entry
+    else {
+        return Fed {
+            listing: ListingAt {
+                number,
+                seen: intake::open_of(entry),
+            },
+            used: piece.len(),
+            end: at,
         };
-        number += 1;
-        let turn = list_whole(input, held, count, kind, number, lines, output, store);
-        window = turn.window;
-        output = turn.output;
-        if !output.open {
-            return number;
-        }
+    };
+    let end = put_found(out, at, number, kept, piece, direct, count, store);
+    Fed {
+        listing: ListingAt {
+            number: number + 1,
+            seen: 0,
+        },
+        used,
+        end,
     }
-    output::flush(lines, output);
-    number
 }
 
-// Lists the records of standard input, `most` at most, and answers how many were whole.
-pub fn list(most: usize) -> usize
-    ensures { λ r. ⌜ r ≤ most ⌝ }
+// Takes in a piece as far as lines find room.
+fn feed_in(
+    listing: ListingAt,
+    kept: &mut [u8; KEPT],
+    piece: &[u8],
+    out: &mut [u8],
+    store: &mut [u8],
+) -> Fed
+    requires { ⌜ length (now store) ≡ 32768 ⌝ }
+    ensures { λ r. ⌜ Feeds listing (now (kept .entry)) (now (piece .entry)) (now (out .entry)) 0 r (now (kept .exit)) (now (out .exit)) ⌝ }
+    ensures { λ r. ⌜ StoreLeft (now (store .entry)) (now (store .exit)) ⌝ }
+    ensures { λ r. ⌜ Stops listing (now (piece .entry)) (now (out .entry)) r ⌝ }
 {
-    let mut input = [0u8; 65536];
-    let mut lines = [0u8; 4096];
-    let mut store = [0u8; store::LEAST];
-    list_in(&mut input, &mut lines, &mut store, most)
+    let mut state = listing;
+    let mut used = 0;
+    let mut end = 0;
+    while used < piece.len() {
+        if out.len() - end < 128 {
+            return Fed {
+                listing: state,
+                used,
+                end,
+            };
+        }
+        if state.number == usize::MAX {
+            return Fed {
+                listing: state,
+                used,
+                end,
+            };
+        }
+        let fed = step(state, kept, &piece[used..], out, end, store);
+        state = fed.listing;
+        used += fed.used;
+        end = fed.end;
+    }
+    Fed {
+        listing: state,
+        used,
+        end,
+    }
+}
+
+// Takes in a piece, and puts the lines of the records that are whole at the front of the buffer. Stops before the piece's end only where
+// a line finds no room, or a record no number.
+pub fn feed(
+    listing: ListingAt,
+    kept: &mut [u8; KEPT],
+    piece: &[u8],
+    out: &mut [u8],
+    store: &mut [u8; 32768],
+) -> Fed
+    ensures { λ r. ⌜ Feeds listing (now (kept .entry)) (now (piece .entry)) (now (out .entry)) 0 r (now (kept .exit)) (now (out .exit)) ⌝ }
+    ensures { λ r. ⌜ StoreLeft (now (store .entry)) (now (store .exit)) ⌝ }
+    ensures { λ r. ⌜ Stops listing (now (piece .entry)) (now (out .entry)) r ⌝ }
+{
+    feed_in(listing, kept, piece, out, store)
+}
+
+// Puts what is printed where the input ends, by what stands where a header was due.
+fn put_last(out: &mut [u8], number: usize, head: Header) -> usize
+    ensures { λ r. ⌜ r ≡ endOf (now (out .entry)) 0 (lastLine number head) ⌝ }
+    ensures { λ _. ⌜ now (out .exit) ≡ putAt (now (out .entry)) 0 (lastLine number head) ⌝ }
+{
+    match head {
+        Header::Record { length: _, kind } => {
+            let refusal = records::read_cut(kind);
+            lines::put_refused(out, 0, number, refusals::refusal_number(refusal) as usize)
+        }
+        Header::Cut => lines::put_refused(out, 0, number, 6),
+        Header::End => 0,
+    }
+}
+
+// Puts what is printed where the input ends.
+fn close_in(listing: ListingAt, kept: &[u8], out: &mut [u8]) -> usize
+    ensures { λ r. ⌜ r ≡ endOf (now (out .entry)) 0 (lastLine (listing .number) (headerOf (take (openAt (listing .seen) (now (kept .entry))) (now (kept .entry))))) ⌝ }
+    ensures { λ _. ⌜ now (out .exit) ≡ putAt (now (out .entry)) 0 (lastLine (listing .number) (headerOf (take (openAt (listing .seen) (now (kept .entry))) (now (kept .entry))))) ⌝ }
+{
+    let seen = intake::open_at(listing.seen, kept);
+    let head = records::read_header(parts::first(kept, seen));
+    put_last(out, listing.number, head)
+}
+
+// Ends the listing: the record that is open is cut.
+pub fn close(listing: ListingAt, kept: &[u8; KEPT], out: &mut [u8]) -> usize
+    ensures { λ r. ⌜ r ≡ endOf (now (out .entry)) 0 (lastLine (listing .number) (headerOf (take (openAt (listing .seen) (now (kept .entry))) (now (kept .entry))))) ⌝ }
+    ensures { λ _. ⌜ now (out .exit) ≡ putAt (now (out .entry)) 0 (lastLine (listing .number) (headerOf (take (openAt (listing .seen) (now (kept .entry))) (now (kept .entry))))) ⌝ }
+{
+    close_in(listing, kept, out)
 }

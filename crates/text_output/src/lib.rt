@@ -1,45 +1,40 @@
-// Standard output through a buffer that the program lends, so that small pieces do not cost a system call each.
+// Standard output, and standard error.
 //
 // The contracts cite `specs/Output.antt`.
-ghost use Rattle.text_output.specs.Output.{Flushed, Roomy};
+use libc::STDERR_FILENO;
 use libc::STDOUT_FILENO;
+use text_parts as parts;
+ghost use lib.ListN.{length};
+ghost use Rattle.text_output.specs.Output.{Handed};
 
-// How many bytes of an output buffer wait to be written, and whether whoever reads them is still there.
+// How many bytes were handed to standard output, and whether whoever reads them is still there.
 pub struct Output {
-    pub at: usize,
+    pub written: usize,
     pub open: bool,
 }
 
-// Writes the first n bytes of the buffer, and answers whether all were taken.
-fn write_start(buffer: &[u8], n: usize) -> bool {
-    if n <= buffer.len() {
-        return io::write_all(STDOUT_FILENO, &buffer[0..n]);
+// Writes the first n bytes of the buffer. Once a write has failed nothing more is written.
+pub fn write(output: Output, buffer: &[u8], n: usize) -> Output
+    ensures { λ r. ⌜ Handed output (length (now (buffer .entry))) n r ⌝ }
+{
+    if !output.open {
+        return output;
     }
-    false
+    let text = parts::first(buffer, n);
+    if usize::MAX - output.written < text.len() {
+        return Output {
+            written: output.written,
+            open: false,
+        };
+    }
+    let taken = io::write_all(STDOUT_FILENO, text);
+    Output {
+        written: output.written + text.len(),
+        open: taken,
+    }
 }
 
-// Writes what waits in the buffer. Once a write has failed nothing more is written.
-pub fn flush(buffer: &[u8], output: Output) -> Output
-    ensures { λ r. ⌜ Flushed output r ⌝ }
-{
-    let at = output.at;
-    let open = output.open;
-    if open {
-        let taken = write_start(buffer, at);
-        return Output { at: 0, open: taken };
-    }
-    Output { at: 0, open }
-}
-
-// Makes room for n bytes more: what waits is written where it leaves too little.
-pub fn room(buffer: &[u8], output: Output, n: usize) -> Output
-    ensures { λ r. ⌜ Roomy (now (buffer .entry)) output n r ⌝ }
-{
-    let at = output.at;
-    if n <= buffer.len() {
-        if at <= buffer.len() - n {
-            return output;
-        }
-    }
-    flush(buffer, output)
+// Tells a line on standard error.
+pub fn tell(line: &[u8]) {
+    io::write_all(STDERR_FILENO, line);
 }

@@ -1,8 +1,8 @@
 -- What follows of a text that is put into a buffer: the buffer keeps its length, and a text put behind another is as the
 -- two put at once.
 use Prim.Native.Nat.{ℕ, _+_, _-_, _≤_, min}
-use mathlib.Core.Path.{_≡_, sym, _∙_, ap}
-use mathlib.Core.List.{List, _++_, append-assoc}
+use mathlib.Core.Path.{_≡_, sym, _∙_, ap, subst}
+use mathlib.Core.List.{List, [], _++_, append-assoc}
 use native.Mathlib.Decide.{decLt, decLe}
 use native.Mathlib.Omega.{arith}
 use native.Mathlib.Nat.{add-assoc}
@@ -16,6 +16,13 @@ unfolding putAt
 put-none buffer at text h =
     let none : min (length text) (length buffer - at) ≡ 0 = omega arith in
     rw none (sym (paste-zero buffer at text))
+
+-- and so does no text
+pub put-no-text : (buffer : List ℕ) (at : ℕ) → putAt buffer at [] ≡ buffer
+unfolding putAt
+put-no-text buffer at =
+    let none : min (length {A = ℕ} []) (length buffer - at) ≡ 0 = omega arith in
+    rw none (sym (paste-zero buffer at []))
 
 pub length-put : (buffer : List ℕ) (at : ℕ) (text : List ℕ) → length (putAt buffer at text) ≡ length buffer
 unfolding putAt
@@ -102,3 +109,34 @@ behind buffer at first second middle end between after p q = (
       ∙ ap (λ (m : ℕ). putAt (putAt buffer at first) m second) (p .0)
       ∙ put-join buffer at first second,
 )
+
+-- the same of a text that is another in other words
+pub puts-as : (buffer : List ℕ) (at : ℕ) (text text′ : List ℕ) (end : ℕ) (after : List ℕ) → text ≡ text′
+    → Puts buffer at text end after
+    → Puts buffer at text′ end after
+puts-as buffer at text text′ end after e p = subst (λ (t : List ℕ). Puts buffer at t end after) e p
+
+-- a text that finds room stands behind what was there, ends where it ends, and leaves what is behind it alone
+pub put-whole : (buffer : List ℕ) (at : ℕ) (text : List ℕ) (end : ℕ) (after : List ℕ) → at + length text ≤ length buffer
+    → Puts buffer at text end after
+    → (end ≡ at + length text)
+    × (length after ≡ length buffer)
+    × (take end after ≡ take at buffer ++ text)
+    × (drop end after ≡ drop end buffer)
+unfolding endOf
+put-whole buffer at text end after room p =
+    let n : ℕ = length text in
+    let there : end ≡ at + n = omega (arith, p .0) in
+    let here : after ≡ paste buffer at text n = p .1 ∙ put-is buffer at text n (omega arith) in
+    let front : take (at + n) (paste buffer at text n) ≡ take at buffer ++ text =
+    take-paste buffer at text n (omega arith) (omega arith) ∙ ap (λ (l : List ℕ). take at buffer ++ l) (take-length text) in
+    let back : drop (at + n) (paste buffer at text n) ≡ drop (at + n) buffer =
+    drop-paste buffer at text n (omega arith) (omega arith) in (
+      there,
+      ap length (p .1) ∙ length-put buffer at text,
+      ap (λ (l : List ℕ). take end l) here ∙ ap (λ (m : ℕ). take m (paste buffer at text n)) there ∙ front,
+      ap (λ (l : List ℕ). drop end l) here
+          ∙ ap (λ (m : ℕ). drop m (paste buffer at text n)) there
+          ∙ back
+          ∙ ap (λ (m : ℕ). drop m buffer) (sym there),
+    )

@@ -1,6 +1,6 @@
 // The program console on another input.
-use console_dialogue as dialogue;
+use console_stream as stream;
 
 fn main() {
-    dialogue::hold(usize::MAX);
+    stream::hold();
 }

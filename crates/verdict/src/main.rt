@@ -1,6 +1,6 @@
 // Reads records from standard input and prints a line for each.
-use record_listing as listing;
+use record_stream as stream;
 
 fn main() {
-    listing::list(usize::MAX);
+    stream::list();
 }

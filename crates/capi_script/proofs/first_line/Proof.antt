@@ -4,7 +4,7 @@ use Prim.Native.Nat.{ℕ, _-_}
 use lib.ListN.{take}
 use denote.Ref.{now}
 use Rattle.bytes.specs.Bytes.{indexOf}
-use Rattle.capi_script.specs.Scripted.{firstLine}
+use Rattle.console_session.specs.Play.{firstLine}
 use borrow.Author.Needs.{needs}
 use Rattle.capi_script.proofs.first_line.Statement.{statement}
 use Rattle.capi_script.proofs.first_line.Tie as tie

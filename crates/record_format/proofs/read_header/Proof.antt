@@ -1,13 +1,15 @@
 use borrow.Author.Needs.{needs}
+use native.Mathlib.Omega.{arith}
 use borrow.Author.Tests.{eq-eqb, ne-eqb, lt-ltb, le-ltb}
+use Rattle.record_format.specs.Records.{lengthIn, kindIn}
 use Rattle.record_format.proofs.read_header.Statement.{statement}
 use Rattle.record_format.proofs.read_header.Tie as tie
 
 returns : tie.Need-returns
-returns c = simp (eq-eqb _ _ (c .if1 .taken))
+returns c = (simp (eq-eqb _ _ (c .if1 .taken)), tt)
 
 returns-2 : tie.Need-returns-2
-returns-2 c = simp (ne-eqb _ _ (c .before .if1 .left), lt-ltb _ _ (c .if2 .taken))
+returns-2 c = (simp (ne-eqb _ _ (c .before .if1 .left), lt-ltb _ _ (c .if2 .taken)), tt)
 
 shared-slice-read-two : tie.Need-shared-slice-read-two
 shared-slice-read-two c = search needs
@@ -43,16 +45,19 @@ two-requires-3 : tie.Need-two-requires-3
 two-requires-3 c κs = search needs
 
 returns-3 : tie.Need-returns-3
+unfolding lengthIn kindIn
 returns-3 c =
     let at-two2 = c .before .before .before in
     let at-two = at-two2 .before .before .before in
-    let at-if2 = at-two .before .before .before in
-    simp (
-      ne-eqb _ _ (at-if2 .before .if1 .left),
-      le-ltb _ _ (at-if2 .if2 .left),
-      at-two .two .ensures .0,
-      at-two2 .two2 .ensures .0,
-      c .two3 .ensures .0,
+    let at-if2 = at-two .before .before .before in (
+      simp (
+        ne-eqb _ _ (at-if2 .before .if1 .left),
+        le-ltb _ _ (at-if2 .if2 .left),
+        at-two .two .ensures .0,
+        at-two2 .two2 .ensures .0,
+        c .two3 .ensures .0,
+      ),
+      (omega (arith, at-two .two .ensures .1, at-two2 .two2 .ensures .1), omega (arith, c .two3 .ensures .1)),
     )
 
 pub read-header-spec : {M : Type 1} → statement M

@@ -1,0 +1,300 @@
+-- No answer has more than 471,200 bytes: a run's line and the lines of its items, 4,096 of them at most, each of 115 bytes at most.
+use Prim.Native.Nat.{ℕ, suc, _+_, _*_, _/_, _≤_, min}
+use mathlib.Core.Path.{_≡_, refl, _∙_}
+use mathlib.Core.Bool.{Bool, true, false, cond, _&&_}
+use mathlib.Core.List.{List, [], _∷_, _++_}
+use native.Mathlib.Omega.{arith}
+use lib.ListN.{length, getD, replicate, length-append, length-replicate}
+use lib.Seq.{length-sets}
+use lib.Dec.{eqb, leb, ltb}
+use borrow.Author.Tests.{leb-true, ltb-false}
+use Rattle.text_put.specs.Text.{spelled, hexByte, hexWord}
+use Rattle.text_put.proofs.Digits.{length-decimal}
+use Rattle.ground_orders.specs.declared.Mode.{Mode}
+use Rattle.ground_orders.specs.declared.Mode.the-variants as mode
+use Rattle.ground_orders.specs.declared.PenMode.{PenMode}
+use Rattle.ground_orders.specs.declared.PenMode.the-variants as pen
+use Rattle.ground_refusals.specs.Refusals.{refusalNumber}
+use Rattle.ground_refusals.specs.declared.Refusal.{Refusal}
+use Rattle.ground_setup.specs.Setup.{sizeOf, wrapOf, sizedOf}
+use Rattle.ground_setup.specs.declared.Size.{Size}
+use Rattle.ground_setup.specs.declared.Size.the-variants.{K4, K8}
+use Rattle.ground_setup.specs.declared.Sized.{Sized}
+use Rattle.ground_setup.specs.declared.Sized.the-variants as sized
+use Rattle.unit_buffer.specs.declared.Read.{Read}
+use Rattle.unit_buffer.specs.Buffer.{nextOf, foundAt, readsOn, readFrom}
+use Rattle.unit_codes.specs.Codes.{classOf, sentBy, allowed}
+use Rattle.unit_codes.specs.declared.Class.{Class}
+use Rattle.unit_codes.specs.declared.Class.the-variants.{Kept, Write, Stopped, Address, Alarm, Invalid}
+use Rattle.unit_codes.specs.declared.Sent.{Sent}
+use Rattle.unit_codes.specs.declared.Sent.the-variants as sent
+use Rattle.unit_commands.specs.Commands.{CommandEnd, Given, giving, reset, fourCount, readBy, doneOf, triedCommand, commandBy, unitCommand}
+use Rattle.unit_commands.specs.declared.Reply.{Reply}
+use Rattle.unit_commands.specs.declared.Reply.the-variants as reply
+use Rattle.unit_cursor.specs.Cursor.{Buffer, anySet}
+use Rattle.unit_head.specs.Head.{DisplayUnit, unit, bufferOf}
+use Rattle.unit_head.specs.declared.Head.{Head}
+use Rattle.unit_head.specs.declared.State.{State}
+use Rattle.unit_items.specs.Items.{numbers, fits, listed}
+use Rattle.unit_items.specs.declared.Item.{Item}
+use Rattle.unit_loading.specs.declared.LoadReply.{LoadReply}
+use Rattle.unit_loading.specs.declared.LoadReply.the-variants as load
+use Rattle.unit_run.specs.Run.{isDone, outBy, turnOf, outOf, listBy, outFrom, allSights, unitList}
+use Rattle.unit_run.specs.declared.RunReply.{RunReply}
+use Rattle.unit_run.specs.declared.RunReply.the-variants as ran
+use Rattle.unit_run.specs.declared.Turn.{Turn}
+use Rattle.unit_run.specs.declared.Turn.the-variants.{On, Last, NotDone}
+use Rattle.unit_step.specs.Step.{lookAt, advanceOf, itemsDrawn, endNumber}
+use Rattle.unit_step.specs.declared.Stepped.{Stepped}
+use Rattle.unit_step.specs.declared.Stepped.the-variants.{Goes, Stops}
+use Rattle.typing_keys.specs.declared.KeyReply.{KeyReply}
+use Rattle.typing_keys.specs.declared.KeyReply.the-variants as key
+use Rattle.device_2250.specs.Device.{unitOf, loadOf, commandOf, runOf, listOf, keyOf, anyCursor}
+use Rattle.device_2250.specs.declared.Device.{Device}
+use Rattle.console_phrases.proofs.Laws.{each-short}
+use Rattle.console_conditions.specs.Conditions.{modeText, penModeText, stateLine}
+use Rattle.console_contents.specs.Contents.{bytesText, statusLine, wordsLine}
+use Rattle.console_pictures.specs.Pictures.{pointLine, vectorLine, symbolLine, itemLine, itemLineAt, itemsText}
+use Rattle.console_replies.specs.Replies.{refusalLine, ranLine}
+use Rattle.console_script.specs.Script.{restOf, requestOf}
+use Rattle.console_script.specs.declared.Request.{Request}
+use Rattle.console_script.specs.declared.Request.the-variants as request
+use Rattle.console_session.specs.Session.{Said, freshSaid, loadTold, replySaid, ranTold, keyTold, bytesSent, dumpSent, sightsSent, saidBy, saidOf, Fits}
+use Rattle.console_session.proofs.Fits.{request-fits}
+
+-- what holds by a test, and what holds either way
+by-test : {A : Type 0} (P : A → Type 0) (t : Bool) {a b : A} → (t ≡ true → P a) → (t ≡ false → P b) → P (cond t a b)
+by-test P true p q = p refl
+by-test P false p q = q refl
+
+either-way : {A : Type 0} (P : A → Type 0) (t : Bool) {a b : A} → P a → P b → P (cond t a b)
+either-way P t p q = by-test P t (λ e. p) (λ e. q)
+
+abbrev Short : ℕ → List ℕ → Type 0
+Short most text = length text ≤ most
+
+-- the line of an item
+point-short : (x y a : ℕ) → Short 115 (pointLine x y a)
+point-short x y a = simp length-append (omega (arith, length-decimal 20 x, length-decimal 20 y, length-decimal 20 a))
+
+vector-short : (x₀ y₀ x y a : ℕ) → Short 115 (vectorLine x₀ y₀ x y a)
+vector-short x₀ y₀ x y a =
+    simp length-append
+    (omega (arith, length-decimal 20 x₀, length-decimal 20 y₀, length-decimal 20 x, length-decimal 20 y, length-decimal 20 a))
+
+symbol-short : (word : List ℕ) (x y code size a : ℕ) → length word ≤ 10 → Short 115 (symbolLine word x y code size a)
+symbol-short word x y code size a h =
+    let sized = either-way (Short 6) (eqb size 1) {a = spelled " basic"} {b = spelled " large"} (omega arith) (omega arith) in
+    simp length-append (omega (arith, sized, length-decimal 20 x, length-decimal 20 y, length-decimal 20 a))
+
+item-short : (kind x₀ y₀ x y code size a : ℕ) → Short 115 (itemLine kind x₀ y₀ x y code size a)
+unfolding itemLine
+item-short kind x₀ y₀ x y code size a =
+    either-way (Short 115) (eqb kind 1) (point-short x y a)
+    (either-way (Short 115) (eqb kind 2) (vector-short x₀ y₀ x y a)
+    (either-way (Short 115) (eqb kind 3) (symbol-short (spelled "character ") x y code size a (omega arith))
+    (symbol-short (spelled "cursor ") x y code size a (omega arith))))
+
+-- a run leaves its list as long as it was
+abbrev As-long : List ℕ → List ℕ → Type 0
+As-long out out′ = length out′ ≡ length out
+
+listed-length : (out : List ℕ) (have : ℕ) (items : List Item) → As-long out (listed out have items)
+unfolding listed
+listed-length out have items =
+    either-way (As-long out) (fits (length out) have items) (length-sets out (have * 8) (numbers items)) refl
+
+out-length : (stepped : Stepped) (out out′ : List ℕ) → As-long out out′ → As-long out (outBy stepped out out′)
+out-length (Goes s′) out out′ e = e
+out-length (Stops s′ end) out out′ e = either-way (As-long out) (isDone end) e refl
+
+run-length : (b : Buffer) (sights : List ℕ) (s : State) (items : ℕ) (out : List ℕ) → As-long out (outFrom b sights s items out)
+unfolding outFrom outOf
+run-length b [] s items out = refl
+run-length b (g ∷ gs) s items out =
+    by (turnOf b s g items out) (λ s′ items′. run-length b gs s′ items′ (outOf b s g items out))
+    (out-length (advanceOf s (lookAt (b .words) s) g) out (listed out items (itemsDrawn b s (lookAt (b .words) s) g))
+    (listed-length out items (itemsDrawn b s (lookAt (b .words) s) g)))
+  where
+    by : (turn : Turn)
+        → ((s′ : State) (items′ : ℕ) → As-long (outOf b s g items out) (outFrom b gs s′ items′ (outOf b s g items out)))
+        → As-long out (outOf b s g items out)
+        → As-long out (listBy (outOf b s g items out) (λ s′ items′. outFrom b gs s′ items′ (outOf b s g items out)) turn)
+    by (On s′ items′) more e = more s′ items′ ∙ e
+    by (Last s′ items′ end) more e = e
+    by (NotDone s′ end) more e = e
+
+list-length : (d : Device) (sights out : List ℕ) → As-long out (listOf d sights out)
+unfolding listOf unitList
+list-length d sights out =
+    either-way (As-long out) (allSights sights && d .head .state .running)
+    (run-length (bufferOf (unitOf d)) sights (d .head .state) 0 out)
+    refl
+
+-- a command gives no more bytes than its room has
+abbrev Gives : ℕ → Reply → Type 0
+Gives most (reply.Status status count) = count ≤ most
+Gives most (reply.Refused r) = Unit {0}
+
+abbrev Ends-within : List ℕ → CommandEnd → Type 0
+Ends-within room end = Gives (length room) (end .answered .answer)
+
+read-count : (b : Buffer) (s : Size) (seek : Bool) (a n : ℕ) (room : List ℕ) → readFrom b s seek a n room .count ≤ n + length room
+unfolding readFrom
+read-count b s seek a n [] = omega arith
+read-count b s seek a n (x ∷ room) =
+    let more = read-count b s seek (nextOf s a) (n + 1) room in
+    either-way (λ (r : Read). r .count ≤ n + suc (length room)) (readsOn (foundAt b seek a) (getD (b .words) a 0)) (omega arith) (omega arith)
+
+read-gives : (u : DisplayUnit) (seek : Bool) (room : List ℕ) → Ends-within room (giving (u .words) (readBy u seek room))
+read-gives u seek room =
+    let s : Size = u .head .state .setup .size in
+    omega (arith, read-count (bufferOf u) s seek (wrapOf s (u .head .state .address)) 0 room)
+
+four-count : (room : List ℕ) → fourCount room ≤ length room
+four-count room =
+    by-test (λ (n : ℕ). n ≤ length room) (ltb (length room) 4) (λ e. omega arith) (λ e. omega (arith, ltb-false (length room) 4 e))
+
+done-gives : (u : DisplayUnit) (k : Class) (code : ℕ) (bytes room : List ℕ) → Ends-within room (doneOf u k code bytes room)
+done-gives u Kept code bytes room =
+    let P : Given → Type 0 = λ g. Ends-within room (giving (u .words) g) in
+    either-way P (eqb code 0x00) (omega arith) (either-way P (eqb code 0x03) (omega arith) (four-count room))
+done-gives u Write code bytes room = omega arith
+done-gives u Stopped code bytes room =
+    let u′ : DisplayUnit = unit (u .words) (reset (u .head)) in
+    either-way (Ends-within room) (eqb code 0x02) (read-gives u′ false room)
+    (either-way (Ends-within room) (eqb code 0x06) (read-gives u′ (anySet (u′ .head .cursor)) room)
+    (either-way (Ends-within room) (eqb code 0x0F) (omega arith)
+    (either-way (Ends-within room) (eqb code 0x12) (four-count room) (omega arith))))
+done-gives u Address code bytes room = omega arith
+done-gives u Alarm code bytes room = omega arith
+done-gives u Invalid code bytes room = omega arith
+
+command-gives : (d : Device) (code : ℕ) (bytes room : List ℕ) → Gives (length room) (commandOf d code bytes room .answered .answer)
+unfolding commandOf unitCommand triedCommand
+command-gives d code bytes room = by (sentBy (u .head .state .setup .size) k code bytes)
+  where
+    u : DisplayUnit
+    u = unitOf d
+
+    k : Class
+    k = classOf code
+
+    by : (sent : Sent) → Ends-within room (commandBy u k code bytes room sent)
+    by (sent.Refused r) = tt
+    by sent.Fit =
+        either-way (Ends-within room) (eqb (u .head .status) 0)
+        (either-way (Ends-within room) (allowed k (u .head .state .running)) (done-gives u k code bytes room) (omega arith))
+        (omega arith)
+
+-- the lines of the answers
+abbrev Within : Said → Type 0
+Within s = Short 471200 (s .text)
+
+refusal-short : (r : Refusal) → Short 471200 (refusalLine (refusalNumber r))
+refusal-short r = simp length-append (omega (arith, length-decimal 20 (refusalNumber r)))
+
+status-short : (status : ℕ) (room : List ℕ) (count : ℕ) → count ≤ 65535 → Short 471200 (statusLine status room count)
+status-short status room count h =
+    let bytes = each-short (λ i. hexByte (getD room i 0)) 2 (λ i. omega arith) count in
+    let given =
+    either-way (Short 400000) (eqb count 0) {a = spelled "\n"} {b = spelled " " ++ bytesText room count ++ spelled "\n"} (omega arith)
+    (simp length-append (omega arith)) in
+    simp length-append (omega arith)
+
+size-least : (s : Size) → sizeOf s ≤ 8192
+size-least K4 = omega arith
+size-least K8 = omega arith
+
+words-short : (words : List ℕ) (s : Size) (from count : ℕ) → Short 471200 (wordsLine words (sizeOf s) from count)
+words-short words s from count =
+    let text = each-short (λ i. hexWord (getD words (from + i) 0)) 4 (λ i. omega arith) count in
+    either-way (Short 471200) (eqb count 0) (omega arith)
+    (by-test (Short 471200) (leb (from + count) (sizeOf s))
+    (λ e. simp length-append (omega (arith, leb-true (from + count) (sizeOf s) e, size-least s)))
+    (λ e. omega arith))
+
+ran-short : (steps why items : ℕ) (list : List ℕ) → length list ≤ 32768 → Short 471200 (ranLine steps why items ++ itemsText list items)
+ran-short steps why items list h =
+    let lines = each-short (itemLineAt list) 115 (λ i. item-short _ _ _ _ _ _ _ _) (min items (length list / 8)) in
+    simp length-append (omega (arith, length-decimal 20 steps, length-decimal 20 why, length-decimal 20 items))
+
+mode-short : (m : Mode) → Short 13 (modeText m)
+mode-short mode.Idle = omega arith
+mode-short mode.Point = omega arith
+mode-short mode.Vector = omega arith
+mode-short mode.IncrementalPoint = omega arith
+mode-short mode.IncrementalVector = omega arith
+mode-short mode.Basic = omega arith
+mode-short mode.Large = omega arith
+
+pen-short : (p : PenMode) → Short 13 (penModeText p)
+pen-short pen.Normal = omega arith
+pen-short pen.Disabled = omega arith
+pen-short pen.NoSwitch = omega arith
+
+state-short : (h : Head) → Short 471200 (stateLine h)
+state-short h =
+    let word : (t : Bool) (a b : List ℕ) → Short 14 a → Short 14 b → Short 14 (cond t a b) = λ t a b p q. either-way (Short 14) t p q in
+    let runs = word (h .state .running) (spelled "running") (spelled "stopped") (omega arith) (omega arith) in
+    let closed = word (h .state .pen .closed) (spelled " switch closed") (spelled " switch open") (omega arith) (omega arith) in
+    let armed = word (h .state .pen .armed) (spelled " armed yes") (spelled " armed no") (omega arith) (omega arith) in
+    simp length-append
+    (omega (arith, mode-short (h .state .mode), pen-short (h .state .pen .mode), length-decimal 20 (h .state .address), length-decimal 20 (h .state .beam .x), length-decimal 20 (h .state .beam .y)))
+
+-- what is said for each request
+fresh-within : (d : Device) (size : Sized) → Within (freshSaid d size)
+fresh-within d (sized.Of s) = omega arith
+fresh-within d (sized.Refused r) = refusal-short r
+
+load-within : (d : Device) (answer : LoadReply) → Within (loadTold d answer)
+load-within d load.Done = omega arith
+load-within d (load.Refused r) = refusal-short r
+
+reply-within : (d : Device) (answer : Reply) (room : List ℕ) (most : ℕ) → most ≤ 65535 → Gives most answer → Within (replySaid d answer room)
+reply-within d (reply.Status status count) room most h gives = status-short status room count (omega arith)
+reply-within d (reply.Refused r) room most h gives = refusal-short r
+
+ran-within : (d : Device) (answer : RunReply) (list : List ℕ) → length list ≤ 32768 → Within (ranTold d answer list)
+ran-within d (ran.Done steps end items) list h = ran-short steps (endNumber end) items list h
+ran-within d (ran.Refused r) list h = refusal-short r
+
+key-within : (d : Device) (answer : KeyReply) → Within (keyTold d answer)
+key-within d (key.Refused r) = refusal-short r
+key-within d key.Unheard = omega arith
+key-within d (key.Heard stored to) = omega arith
+
+by-within : (d : Device) (line : List ℕ) (r : Request) → Fits r → Within (saidBy d line r)
+by-within d line (request.Fresh size) fit = fresh-within d (sizedOf size)
+by-within d line (request.Load size) fit =
+    let loaded = loadOf d size (dumpSent (restOf (restOf line))) in
+    load-within (loaded .device) (loaded .answer)
+by-within d line (request.Command code room) fit =
+    let bytes : List ℕ = bytesSent (restOf (restOf (restOf line))) in
+    let lent : List ℕ = replicate room 0 in
+    let outcome = commandOf d code bytes lent in
+    reply-within (outcome .answered .device) (outcome .answered .answer) (outcome .room) (length lent)
+    (omega (arith, length-replicate {A = ℕ} room 0))
+    (command-gives d code bytes lent)
+by-within d line request.Halt fit = omega arith
+by-within d line request.SwitchOpen fit = omega arith
+by-within d line request.SwitchClosed fit = omega arith
+by-within d line (request.Run room) fit =
+    let sights : List ℕ = sightsSent (restOf (restOf line)) in
+    let lent : List ℕ = replicate (8 * room) 0 in
+    let ran = runOf d sights lent in
+    ran-within (ran .device) (ran .answer) (listOf d sights lent)
+    (omega (arith, list-length d sights lent, length-replicate {A = ℕ} (8 * room) 0))
+by-within d line request.State fit = state-short (d .head)
+by-within d line (request.Words from count) fit = words-short (d .words) (d .head .state .setup .size) from count
+by-within d line (request.Key number) fit =
+    let keyed = keyOf d number in
+    key-within (keyed .device) (keyed .answer)
+by-within d line request.Cursor fit = either-way (Short 471200) (anyCursor d) (omega arith) (omega arith)
+by-within d line request.Empty fit = omega arith
+by-within d line request.Error fit = omega arith
+
+pub said-within : (d : Device) (line : List ℕ) → length (saidOf d line .text) ≤ 471200
+unfolding saidOf
+said-within d line =
+    either-way Within (leb (length line) 40000) (by-within d line (requestOf line) (request-fits line)) (omega arith)
