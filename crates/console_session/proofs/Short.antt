@@ -132,12 +132,12 @@ list-length d sights out =
     refl
 
 -- a command gives no more bytes than its room has
-abbrev Gives : ℕ → Reply → Type 0
-Gives most (reply.Status status count) = count ≤ most
-Gives most (reply.Refused r) = Unit {0}
+abbrev GivesAtMost : ℕ → Reply → Type 0
+GivesAtMost most (reply.Status status count) = count ≤ most
+GivesAtMost most (reply.Refused r) = Unit {0}
 
 abbrev Ends-within : List ℕ → CommandEnd → Type 0
-Ends-within room end = Gives (length room) (end .answered .answer)
+Ends-within room end = GivesAtMost (length room) (end .answered .answer)
 
 read-count : (b : Buffer) (s : Size) (seek : Bool) (a n : ℕ) (room : List ℕ) → readFrom b s seek a n room .count ≤ n + length room
 unfolding readFrom
@@ -170,7 +170,7 @@ done-gives u Address code bytes room = omega arith
 done-gives u Alarm code bytes room = omega arith
 done-gives u Invalid code bytes room = omega arith
 
-command-gives : (d : Device) (code : ℕ) (bytes room : List ℕ) → Gives (length room) (commandOf d code bytes room .answered .answer)
+command-gives : (d : Device) (code : ℕ) (bytes room : List ℕ) → GivesAtMost (length room) (commandOf d code bytes room .answered .answer)
 unfolding commandOf unitCommand triedCommand
 command-gives d code bytes room = by (sentBy (u .head .state .setup .size) k code bytes)
   where
@@ -188,8 +188,8 @@ command-gives d code bytes room = by (sentBy (u .head .state .setup .size) k cod
         (omega arith)
 
 -- the lines of the answers
-abbrev Within : Said → Type 0
-Within s = Short 471200 (s .text)
+abbrev ShortSaid : Said → Type 0
+ShortSaid s = Short 471200 (s .text)
 
 refusal-short : (r : Refusal) → Short 471200 (refusalLine (refusalNumber r))
 refusal-short r = simp length-append (omega (arith, length-decimal 20 (refusalNumber r)))
@@ -243,28 +243,28 @@ state-short h =
     (omega (arith, mode-short (h .state .mode), pen-short (h .state .pen .mode), length-decimal 20 (h .state .address), length-decimal 20 (h .state .beam .x), length-decimal 20 (h .state .beam .y)))
 
 -- what is said for each request
-fresh-within : (d : Device) (size : Sized) → Within (freshSaid d size)
+fresh-within : (d : Device) (size : Sized) → ShortSaid (freshSaid d size)
 fresh-within d (sized.Of s) = omega arith
 fresh-within d (sized.Refused r) = refusal-short r
 
-load-within : (d : Device) (answer : LoadReply) → Within (loadTold d answer)
+load-within : (d : Device) (answer : LoadReply) → ShortSaid (loadTold d answer)
 load-within d load.Done = omega arith
 load-within d (load.Refused r) = refusal-short r
 
-reply-within : (d : Device) (answer : Reply) (room : List ℕ) (most : ℕ) → most ≤ 65535 → Gives most answer → Within (replySaid d answer room)
+reply-within : (d : Device) (answer : Reply) (room : List ℕ) (most : ℕ) → most ≤ 65535 → GivesAtMost most answer → ShortSaid (replySaid d answer room)
 reply-within d (reply.Status status count) room most h gives = status-short status room count (omega arith)
 reply-within d (reply.Refused r) room most h gives = refusal-short r
 
-ran-within : (d : Device) (answer : RunReply) (list : List ℕ) → length list ≤ 32768 → Within (ranTold d answer list)
+ran-within : (d : Device) (answer : RunReply) (list : List ℕ) → length list ≤ 32768 → ShortSaid (ranTold d answer list)
 ran-within d (ran.Done steps end items) list h = ran-short steps (endNumber end) items list h
 ran-within d (ran.Refused r) list h = refusal-short r
 
-key-within : (d : Device) (answer : KeyReply) → Within (keyTold d answer)
+key-within : (d : Device) (answer : KeyReply) → ShortSaid (keyTold d answer)
 key-within d (key.Refused r) = refusal-short r
 key-within d key.Unheard = omega arith
 key-within d (key.Heard stored to) = omega arith
 
-by-within : (d : Device) (line : List ℕ) (r : Request) → Fits r → Within (saidBy d line r)
+by-within : (d : Device) (line : List ℕ) (r : Request) → Fits r → ShortSaid (saidBy d line r)
 by-within d line (request.Fresh size) fit = fresh-within d (sizedOf size)
 by-within d line (request.Load size) fit =
     let loaded = loadOf d size (dumpSent (restOf (restOf line))) in
@@ -297,4 +297,4 @@ by-within d line request.Error fit = omega arith
 pub said-within : (d : Device) (line : List ℕ) → length (saidOf d line .text) ≤ 471200
 unfolding saidOf
 said-within d line =
-    either-way Within (leb (length line) 40000) (by-within d line (requestOf line) (request-fits line)) (omega arith)
+    either-way ShortSaid (leb (length line) 40000) (by-within d line (requestOf line) (request-fits line)) (omega arith)

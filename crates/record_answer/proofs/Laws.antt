@@ -1,29 +1,28 @@
 -- Equal payloads have the same lines; the first bytes of a record that suffice have its line; a record has one line, of 128 bytes at
 -- most, and leaves the store as it was or zero.
-use Prim.Native.Nat.{ℕ, zero, suc, _+_, _-_, _≤_, _<_, min}
+use Prim.Native.Nat.{ℕ, _+_, _-_, _≤_, _<_}
 use mathlib.Core.Path.{_≡_, refl, sym, ap, subst, _∙_}
 use mathlib.Core.Bool.{Bool, true, false, cond}
-use mathlib.Core.List.{List, [], _∷_, _++_, append-nil}
+use mathlib.Core.List.{List, _++_, append-nil}
 use mathlib.Core.Logic.{_⊎_, inl, inr}
 use native.Mathlib.Decide.{decLe, ℕ-discrete}
 use native.Mathlib.Omega.{arith}
 use borrow.Author.Tests.{eq-eqb, ne-eqb, lt-ltb, le-ltb}
-use lib.ListN.{length, getD, take, drop, replicate, length-take, length-drop, length-append, take-append-drop, List·getD-append, drop-of-length-le}
+use lib.ListN.{length, drop, replicate, length-drop, length-append, take-append-drop, List·getD-append, drop-of-length-le}
 use lib.Seq.{take-all, drop-append-le}
 use Rattle.ground_refusals.specs.Refusals.{refusalNumber}
 use Rattle.ground_refusals.specs.declared.Refusal.the-variants.{UnknownKind}
 use Rattle.ground_setup.specs.Setup.{sizeOf, sizedOf}
-use Rattle.ground_setup.specs.declared.Size.{Size}
 use Rattle.ground_setup.specs.declared.Sized.{Sized}
 use Rattle.ground_setup.specs.declared.Sized.the-variants.{Of, Refused}
 use Rattle.ground_setup.proofs.Laws.{sane}
-use Rattle.record_format.specs.Records.{le16, lengthIn, kindIn, extentOf, kindRow, payloadOf}
+use Rattle.record_format.specs.Records.{le16, kindIn, extentOf, kindRow, payloadOf}
 use Rattle.record_format.specs.declared.Kind.{Kind}
 use Rattle.record_format.specs.declared.Payload.{Payload}
 use Rattle.record_format.specs.declared.Payload.the-variants as payload
 use Rattle.record_format.proofs.First.{kind-first}
 use Rattle.record_lines.proofs.Short.{passed-short, refused-short, fault-short}
-use Rattle.record_intake.specs.Intake.{neededOf, Suffices}
+use Rattle.record_intake.specs.Intake.{Suffices}
 use Rattle.record_intake.proofs.Laws.{need-rest}
 use Rattle.validator_store.specs.Layout.{roomOf, room-here}
 use Rattle.validator_verdict.specs.Verdict.{Values, Tried, triedBy, triedOf, Judged}

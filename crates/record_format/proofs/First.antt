@@ -1,7 +1,6 @@
 -- A record's length and kind are told by its first six bytes.
-use Prim.Native.Nat.{ℕ, _+_, _≤_, _<_, min}
+use Prim.Native.Nat.{ℕ, _+_, _≤_, _<_}
 use mathlib.Core.Path.{_≡_, sym, ap, _∙_}
-use mathlib.Core.Bool.{true, false}
 use mathlib.Core.List.{List, [], _∷_, _++_}
 use mathlib.Core.Logic.{⊎-elim}
 use borrow.Author.Needs.{needs}
@@ -9,10 +8,10 @@ use types.Run.{OneOf}
 use denote.Enum.Declared.{tagOf}
 use native.Mathlib.Omega.{arith}
 use native.Mathlib.Decide.{decLt}
-use borrow.Author.Tests.{eq-eqb, ne-eqb, lt-ltb, le-ltb}
-use lib.ListN.{length, getD, take, drop, length-take, take-append-drop, List·getD-append}
+use borrow.Author.Tests.{ne-eqb, lt-ltb, le-ltb}
+use lib.ListN.{length, take, drop, length-take, take-append-drop, List·getD-append}
 use lib.Seq.{take-all}
-use Rattle.record_format.specs.Records.{lengthIn, kindIn, extentOf, headerOf}
+use Rattle.record_format.specs.Records.{lengthIn, kindIn, headerOf}
 use Rattle.record_format.specs.declared.Header.{Header}
 use Rattle.record_format.specs.declared.Header.the-variants.{Record, Cut, End}
 use Rattle.record_format.proofs.Header.{the-type as head-type}

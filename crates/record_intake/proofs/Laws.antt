@@ -1,5 +1,5 @@
 -- What is kept of a record, and what is found behind it.
-use Prim.Native.Nat.{ℕ, zero, suc, _+_, _-_, _≤_, _<_, min}
+use Prim.Native.Nat.{ℕ, _+_, _-_, _≤_, _<_, min}
 use mathlib.Core.Path.{_≡_, refl, sym, ap, subst, _∙_}
 use mathlib.Core.Bool.{Bool, true, false, cond}
 use mathlib.Core.List.{List, [], _∷_, _++_, append-assoc}
@@ -10,7 +10,7 @@ use denote.Enum.Declared.{tagOf}
 use native.Mathlib.Decide.{decLt}
 use borrow.Author.Tests.{lt-ltb, le-ltb}
 use lib.ListN.{length, take, drop, replicate, length-take, length-append, length-replicate, take-append-drop}
-use lib.Seq.{take-all, take-take, take-append-le, take-append-add, take-append-seam, length-take-le}
+use lib.Seq.{take-all, take-take, take-append-le, take-append-add, length-take-le}
 use lib.Dec.{eqb, ltb}
 use Rattle.record_format.specs.Records.{lengthIn, kindIn, extentOf, headerOf, HeaderWithin, kindRow}
 use Rattle.record_format.specs.declared.Kind.{Kind}
@@ -20,7 +20,7 @@ use Rattle.record_format.proofs.Header.{the-type as head-type}
 use Rattle.record_format.proofs.First.{length-first, kind-first, length-take-six, header-first, header-whole, header-is}
 use Rattle.text_put.specs.Text.{putAt, endOf}
 use Rattle.text_put.proofs.Laws.{put-whole, put-no-text}
-use Rattle.record_intake.specs.Intake.{neededOf, OpenRecord, openBy, openAt, Suffices, WholeRecord}
+use Rattle.record_intake.specs.Intake.{neededOf, OpenRecord, openBy, openAt, WholeRecord}
 
 -- what can be needed of a record
 pub need-head : (s : List ℕ) → length s < 6 → neededOf s ≡ 6

@@ -1,12 +1,12 @@
 -- THE WHOLE of an input, whatever the pieces that it comes in, for any `Line`.
-use Prim.Native.Nat.{ℕ, _+_, _≤_, _<_}
+use Prim.Native.Nat.{ℕ, _+_}
 use mathlib.Core.Path.{_≡_, refl, sym, ap, subst, _∙_}
-use mathlib.Core.List.{List, [], _∷_, _++_, append-assoc, append-nil}
+use mathlib.Core.List.{List, [], _++_, append-assoc, append-nil}
 use native.Mathlib.Omega.{arith}
 use lib.ListN.{length, take, drop, length-append, take-append-drop}
 use lib.Seq.{take-append-seam, drop-append-seam}
 use Rattle.record_format.specs.Records.{extentOf}
-use Rattle.record_intake.specs.Intake.{OpenRecord, WholeRecord}
+use Rattle.record_intake.specs.Intake.{WholeRecord}
 use Rattle.record_intake.specs.Printed.{Printed, nothing, headless, cut, listed, recordIn, behindIn, Told}
 use Rattle.record_intake.proofs.Laws.{extent-first}
 

@@ -10,7 +10,7 @@ ghost use mathlib.Core.List.{List};
 ghost use Prim.Native.Nat.{ℕ, _+_, _-_, _≤_, _<_, min};
 ghost use lib.ListN.{length, take};
 ghost use Rattle.text_put.specs.Text.{putAt};
-ghost use Rattle.record_format.specs.Records.{lengthIn, kindIn, extentOf, headerOf, HeaderWithin, kindRow};
+ghost use Rattle.record_format.specs.Records.{extentOf, headerOf, HeaderWithin, kindRow};
 ghost use Rattle.record_intake.specs.Intake.{OpenRecord, openAt, openOf, FoundIn, UsedIn};
 
 // How many bytes of a record can be needed: its header, and the most that any kind needs of its payload.

@@ -1,6 +1,6 @@
 -- 01's printed example: "Input `0A000000 0100 0010 0000 000000000000`, then `04000000 0100 0010 0100`. Whole output:", two lines.
 use Prim.Native.Nat.{ℕ}
-use mathlib.Core.Path.{_≡_, refl, sym, ap, subst, _∙_}
+use mathlib.Core.Path.{_≡_, refl, sym, subst}
 use mathlib.Core.List.{List, [], _∷_, _++_}
 use native.Mathlib.Omega.{arith}
 use lib.ListN.{length, drop, replicate, length-replicate}

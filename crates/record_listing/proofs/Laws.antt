@@ -2,9 +2,9 @@
 use Prim.Native.Nat.{ℕ, _+_, _-_, _≤_, _<_}
 use mathlib.Core.Path.{_≡_, refl, sym, ap, subst, _∙_}
 use mathlib.Core.List.{List, [], _++_, append-assoc, append-nil}
-use mathlib.Core.Logic.{_⊎_, inl, inr}
+use mathlib.Core.Logic.{inl, inr}
 use native.Mathlib.Omega.{arith}
-use lib.ListN.{length, take, drop, replicate, length-drop}
+use lib.ListN.{length, take, drop, length-drop}
 use lib.Seq.{drop-drop, drop-length}
 use Rattle.text_put.proofs.Laws.{put-whole}
 use Rattle.record_format.specs.Records.{kindIn, payloadOf}
@@ -14,7 +14,7 @@ use Rattle.record_intake.proofs.Laws.{open-none}
 use Rattle.record_intake.proofs.Stream.{told-line, told-none, told-on}
 use Rattle.record_answer.specs.Answer.{RecordLine, LineAnswered}
 use Rattle.record_answer.proofs.Laws.{answer-first, line-short, store-left}
-use Rattle.record_listing.specs.Listing.{Comes, Feeds, StoreLeft}
+use Rattle.record_listing.specs.Listing.{Feeds, StoreLeft}
 use Rattle.record_listing.specs.declared.ListingAt.{ListingAt}
 use Rattle.record_listing.specs.declared.Fed.{Fed}
 

@@ -1,16 +1,15 @@
 -- THE WHOLE of a listing: whatever the pieces, what is given out is what is printed for all their bytes; and an input has one text.
-use Prim.Native.Nat.{ℕ, _+_, _≤_, _<_, min}
-use mathlib.Core.Path.{_≡_, refl, sym, ap, subst, _∙_}
+use Prim.Native.Nat.{ℕ, _+_, _<_, min}
+use mathlib.Core.Path.{_≡_, sym, ap, subst, _∙_}
 use mathlib.Core.List.{List, [], _∷_, _++_, append-assoc}
 use native.Mathlib.Omega.{arith}
 use native.Mathlib.Decide.{decLt}
-use borrow.Author.Tests.{eq-eqb, ne-eqb, lt-ltb}
-use lib.ListN.{length, take, drop, length-take}
-use lib.Seq.{take-take, take-all}
-use Rattle.ground_refusals.specs.Refusals.{refusalNumber}
-use Rattle.record_format.specs.Records.{kindIn, lengthIn, extentOf, headerOf, cutOf}
+use borrow.Author.Tests.{ne-eqb, lt-ltb}
+use lib.ListN.{length, take, drop}
+use lib.Seq.{take-take}
+use Rattle.record_format.specs.Records.{kindIn, lengthIn, extentOf, headerOf}
 use Rattle.record_format.specs.declared.Header.{Header}
-use Rattle.record_format.specs.declared.Header.the-variants.{Record, Cut, End}
+use Rattle.record_format.specs.declared.Header.the-variants.{Record, Cut}
 use Rattle.record_format.proofs.First.{header-first, header-whole}
 use Rattle.record_intake.specs.Intake.{neededOf, OpenRecord, openAt}
 use Rattle.record_intake.specs.Printed.{Printed, nothing, headless, cut, Told}

@@ -1,11 +1,11 @@
 -- What is read, taken in and written, counted.
-use Prim.Native.Nat.{ℕ, _+_, _-_, _≤_, _<_, min}
+use Prim.Native.Nat.{ℕ, _+_, _-_, _≤_}
 use mathlib.Core.Path.{_≡_, refl, sym, ap, subst, _∙_}
 use mathlib.Core.Bool.{true}
 use mathlib.Core.List.{List, [], _++_, append-nil, append-assoc}
 use native.Mathlib.Omega.{arith}
-use lib.ListN.{length, take, drop, length-append, length-drop, length-take, drop-of-length-le}
-use lib.Seq.{drop-drop, length-take-le}
+use lib.ListN.{length, take, drop, length-append, drop-of-length-le}
+use lib.Seq.{length-take-le}
 use Rattle.text_output.specs.Output.{Handed}
 use Rattle.text_output.specs.declared.Output.{Output}
 use Rattle.text_put.proofs.Laws.{Puts, put-whole}
@@ -21,7 +21,7 @@ use Rattle.record_listing.specs.Pieces.{Standing, closingOf}
 use Rattle.record_listing.specs.declared.ListingAt.{ListingAt}
 use Rattle.record_listing.specs.declared.Fed.{Fed}
 use Rattle.record_listing.proofs.Stream.{standing-first, standing-more, standing-fed, standing-closed}
-use Rattle.record_stream.specs.Stream.{Onward, Pours, Between, AllListed}
+use Rattle.record_stream.specs.Stream.{Pours, Between, AllListed}
 use Rattle.text_stream.specs.declared.Streamed.{Streamed}
 
 -- nothing of a piece is taken in, and a call more

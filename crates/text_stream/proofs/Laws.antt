@@ -4,7 +4,6 @@ use mathlib.Core.Path.{_≡_, refl, sym, subst}
 use mathlib.Core.Bool.{Bool, true, false, cond}
 use Rattle.text_output.specs.declared.Output.{Output}
 use Rattle.text_stream.specs.Ends.{EndedBy, StreamEnds, closedOf}
-use Rattle.text_stream.specs.declared.Ending.{Ending}
 use Rattle.text_stream.specs.declared.Ending.the-variants.{All, Shut}
 use Rattle.text_stream.specs.declared.Streamed.{Streamed}
 

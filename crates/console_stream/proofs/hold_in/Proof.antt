@@ -2,13 +2,11 @@ use borrow.Author.Needs.{needs}
 use borrow.Author.Tests.{not-true, not-false}
 use native.Mathlib.Omega.{arith}
 use mathlib.Core.Path.{_≡_, refl, ap, subst, _∙_}
-use mathlib.Core.List.{List}
-use Prim.Native.Nat.{ℕ, _-_, _≤_, _<_}
+use Prim.Native.Nat.{ℕ, _-_}
 use lib.ListN.{length}
 use lib.Seq.{length-take-le}
 use denote.Ref.{now}
 use Rattle.text_input.specs.Input.{CameWithin}
-use Rattle.text_input.specs.declared.Came.{Came}
 use Rattle.console_stream.specs.Stream.{Holding}
 use Rattle.console_stream.proofs.Laws.{holding-first, holding-on}
 use Rattle.console_stream.proofs.hold_in.Statement.{statement}

@@ -1,9 +1,8 @@
 use native.Mathlib.Omega.{arith}
 use mathlib.Core.Path.{_≡_, sym, ap, _∙_}
-use Prim.Native.Nat.{ℕ, _+_}
+use Prim.Native.Nat.{_+_}
 use borrow.Author.Tests.{lt-ltb, le-ltb}
 use denote.Ref.{now}
-use Rattle.record_format.specs.Records.{headerOf}
 use Rattle.record_format.specs.declared.Header.the-variants.{Record}
 use Rattle.record_intake.specs.Intake.{openBy, openAt}
 use Rattle.record_intake.proofs.Laws.{header-bound, no-open}

@@ -1,6 +1,5 @@
 use mathlib.Core.Path.{ap, _∙_}
 use Prim.Native.Nat.{ℕ}
-use mathlib.Core.List.{List}
 use lib.ListN.{take}
 use denote.Ref.{now}
 use Rattle.record_format.specs.Records.{headerOf}

@@ -1,11 +1,10 @@
 use borrow.Author.Needs.{needs}
 use native.Mathlib.Omega.{arith}
 use native.Mathlib.Decide.{decLt}
-use mathlib.Core.Path.{_≡_, refl, sym, ap, _∙_}
-use mathlib.Core.List.{List}
+use mathlib.Core.Path.{_≡_, refl, ap, _∙_}
 use mathlib.Core.Logic.{inl}
-use Prim.Native.Nat.{ℕ, _-_, _+_, _≤_, _<_}
-use lib.ListN.{length, drop, length-drop}
+use Prim.Native.Nat.{ℕ, _-_}
+use lib.ListN.{length, length-drop}
 use denote.Ref.{now}
 use Rattle.text_parts.proofs.Laws.{to-the-end}
 use Rattle.record_listing.specs.Listing.{Feeds, StoreLeft}

@@ -1,7 +1,6 @@
 use native.Mathlib.Omega.{arith}
 use mathlib.Core.Path.{_≡_, sym, ap, _∙_}
-use mathlib.Core.List.{List, []}
-use Prim.Native.Nat.{ℕ}
+use mathlib.Core.List.{[]}
 use denote.Ref.{now}
 use Rattle.ground_refusals.specs.Refusals.{refusalNumber}
 use Rattle.text_put.specs.Text.{putAt, endOf}

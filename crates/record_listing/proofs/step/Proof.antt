@@ -1,10 +1,8 @@
 use native.Mathlib.Omega.{arith}
-use mathlib.Core.Path.{_≡_, refl, sym, ap, subst, _∙_}
-use mathlib.Core.Bool.{Bool, cond}
-use mathlib.Core.List.{List, _++_}
+use mathlib.Core.Path.{refl, sym, ap, subst, _∙_}
+use mathlib.Core.List.{_++_}
 use mathlib.Core.Logic.{inl}
 use Prim.Native.Nat.{ℕ}
-use lib.ListN.{length, take}
 use denote.Ref.{now}
 use Rattle.record_intake.specs.Intake.{OpenRecord, openAt, openOf, FoundIn, UsedIn}
 use Rattle.record_intake.specs.declared.Entry.{Entry}
