@@ -48,7 +48,7 @@ fn convey(
     }
 }
 
-// StreamEnds the dialogue at the end of the input: the last line is answered where it wants its newline. That an input cannot be read is told, and
+// Ends the dialogue at the end of the input: the last line is answered where it wants its newline. That an input cannot be read is told, and
 // the line that is open has no answer.
 fn finish(
     came: Came,

@@ -51,7 +51,7 @@ fn pour(
     }
 }
 
-// StreamEnds the listing at the end of the input. That an input cannot be read is told, and nothing is closed.
+// Ends the listing at the end of the input. That an input cannot be read is told, and nothing is closed.
 fn finish(
     came: Came,
     listing: ListingAt,
