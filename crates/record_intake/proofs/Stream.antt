@@ -63,12 +63,12 @@ module _ (Line : ℕ → List ℕ → List ℕ → Type 0) where
       (subst (λ (l : List ℕ). Printed Line n (s ++ (a ++ (b ++ r))) l) (sym (append-assoc text more t))
       (p (b ++ r) (more ++ t) behind))
 
-  -- FROM NOTHING TO THE END OF THE INPUT
-  pub told-all : (number : ℕ) (s input text last : List ℕ) → Told Line 1 [] input text number s [] → Printed Line number s last
-      → Printed Line 1 input (text ++ last)
-  told-all number s input text last p q =
-      printed-as 1 (input ++ []) input (text ++ last) (append-nil input)
-      (p [] last (printed-as number s (s ++ []) last (sym (append-nil s)) q))
+  -- TO THE END OF THE INPUT
+  pub told-all : (n n′ : ℕ) (s s′ input text last : List ℕ) → Told Line n s input text n′ s′ [] → Printed Line n′ s′ last
+      → Printed Line n (s ++ input) (text ++ last)
+  told-all n n′ s s′ input text last p q =
+      printed-as n (s ++ (input ++ [])) (s ++ input) (text ++ last) (ap (λ (l : List ℕ). s ++ l) (append-nil input))
+      (p [] last (printed-as n′ s′ (s′ ++ []) last (sym (append-nil s′)) q))
 
   -- WHERE A RECORD HAS ONE LINE, AN INPUT HAS ONE TEXT
   pub one-text : ((n : ℕ) (s a b : List ℕ) → Line n s a → Line n s b → a ≡ b) → (n : ℕ) (s t u : List ℕ) → Printed Line n s t

@@ -93,10 +93,10 @@ standing-fed n s input rest text kept kept′ out out′ l f x feeds =
     }
 
 -- AT ANY TIME: what was given out, and what `close` would put, is what is printed for the input so far
-pub standing-closed : (input text kept : List ℕ) (l : ListingAt) → Standing 1 [] input [] text l kept
-    → PrintedFor input (text ++ closingOf l kept)
-standing-closed input text kept l x =
-    told-all RecordLine (l .number) (x .bytes) input text (closingOf l kept) (x .told) (closing-printed l kept (x .bytes) (x .opened))
+pub standing-closed : (n : ℕ) (s input text kept : List ℕ) (l : ListingAt) → Standing n s input [] text l kept
+    → Printed RecordLine n (s ++ input) (text ++ closingOf l kept)
+standing-closed n s input text kept l x =
+    told-all RecordLine n (l .number) s (x .bytes) input text (closingOf l kept) (x .told) (closing-printed l kept (x .bytes) (x .opened))
 
 -- a piece and then others is all of them joined
 standing-calls : {l l′ : ListingAt} {kept kept′ text : List ℕ} {pieces : List (List ℕ)} → Calls l kept pieces text l′ kept′ → (s : List ℕ)
@@ -120,18 +120,20 @@ standing-calls (fed l l′ kept kept₁ kept′ piece out out₁ text pieces f f
 pub whatever-the-pieces : (l : ListingAt) (kept kept′ text : List ℕ) (pieces : List (List ℕ)) → Calls (state 1 0) kept pieces text l kept′
     → PrintedFor (bytesOf pieces) (text ++ closingOf l kept′)
 whatever-the-pieces l kept kept′ text pieces calls =
-    standing-closed (bytesOf pieces) text kept′ l (standing-calls calls [] (open-none kept))
+    standing-closed 1 [] (bytesOf pieces) text kept′ l (standing-calls calls [] (open-none kept))
 
 -- AN INPUT HAS ONE TEXT
 pub one-listing : (input t u : List ℕ) → PrintedFor input t → PrintedFor input u → t ≡ u
 one-listing input t u p q = one-text RecordLine one-line 1 input t u p q
 
--- so pieces of the same bytes, given out in any way, come to the same text
-pub same-text : (l m : ListingAt) (kept kept′ room room′ t u : List ℕ) (a b : List (List ℕ)) → bytesOf a ≡ bytesOf b
-    → Calls (state 1 0) kept a t l kept′
-    → Calls (state 1 0) room b u m room′
-    → t ++ closingOf l kept′ ≡ u ++ closingOf m room′
-same-text l m kept kept′ room room′ t u a b e p q =
-    one-listing (bytesOf b) (t ++ closingOf l kept′) (u ++ closingOf m room′)
-    (subst (λ (i : List ℕ). PrintedFor i (t ++ closingOf l kept′)) e (whatever-the-pieces l kept kept′ t a p))
-    (whatever-the-pieces m room room′ u b q)
+-- FEEDING A PIECE AND THEN ANOTHER IS FEEDING THE TWO JOINED, from any state: pieces of the same bytes come to the same text
+pub same-text : (l l₁ l₂ : ListingAt) (kept kept₁ kept₂ s t u : List ℕ) (a b : List (List ℕ)) → OpenRecord (openAt (l .seen) kept) kept s
+    → bytesOf a ≡ bytesOf b
+    → Calls l kept a t l₁ kept₁
+    → Calls l kept b u l₂ kept₂
+    → t ++ closingOf l₁ kept₁ ≡ u ++ closingOf l₂ kept₂
+same-text l l₁ l₂ kept kept₁ kept₂ s t u a b o e p q =
+    one-text RecordLine one-line (l .number) (s ++ bytesOf b) (t ++ closingOf l₁ kept₁) (u ++ closingOf l₂ kept₂)
+    (subst (λ (i : List ℕ). Printed RecordLine (l .number) (s ++ i) (t ++ closingOf l₁ kept₁)) e
+    (standing-closed (l .number) s (bytesOf a) t kept₁ l₁ (standing-calls p s o)))
+    (standing-closed (l .number) s (bytesOf b) u kept₂ l₂ (standing-calls q s o))

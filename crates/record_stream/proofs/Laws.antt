@@ -121,7 +121,7 @@ reads-closed l kept out out′ output count end r room puts wrote open-still cam
     record {
       input = x .input;
       text = x .text ++ last;
-      printed = standing-closed (x .input) (x .text) kept l (x .stands);
+      printed = standing-closed 1 [] (x .input) (x .text) kept l (x .stands);
       came = x .came ∙ sym came;
       written = omega (arith, length-append (x .text) last, x .written, put .0, put .1, wrote .count open-still);
     }
