@@ -4,6 +4,7 @@
 use libc::STDERR_FILENO;
 use libc::STDOUT_FILENO;
 use text_parts as parts;
+ghost use mathlib.Core.Path.{_≡_};
 ghost use lib.ListN.{length};
 ghost use Rattle.text_output.specs.Output.{Handed};
 
@@ -34,7 +35,10 @@ pub fn write(output: Output, buffer: &[u8], n: usize) -> Output
     }
 }
 
-// Tells a line on standard error.
-pub fn tell(line: &[u8]) {
+// Tells a line on standard error, and answers how many bytes were handed over.
+pub fn tell(line: &[u8]) -> usize
+    ensures { λ r. ⌜ r ≡ length (now (line .entry)) ⌝ }
+{
     io::write_all(STDERR_FILENO, line);
+    line.len()
 }
