@@ -10,19 +10,21 @@
 //! khaonuat_script(script: &[u8], out: &mut [u8]) -> usize
 //!     one console session from its first line to its last: the bytes it printed into `out`,
 //!     which is lent large enough
-//! khaonuat_run(dump: &[u16], size: u32, start: u16, closed: bool, sights: &[u8], items: &mut [u16]) -> u64
+//! khaonuat_run(dump: &[u16], size: u32, start: u16, closed: bool, sights: &[u8], items: &mut [u16],
+//!     counts: &mut [usize; 2]) -> u64
 //!     loads the dump, sets the switch, starts the unit at `start` by the command 27 and runs it;
-//!     `items` has room for its length divided by eight items
+//!     `items` has room for its length divided by eight items, and `counts` is given the steps done
+//!     and the items listed; a refusal leaves both as they were
 //! ```
 //!
-//! A slice passes as a pointer and a length in elements. Answers in one number, from the top: one
+//! A slice passes as a pointer and a length in elements, an array as a pointer. Answers in one number, from the top: one
 //! byte that says which, 0 passed or ran, 1 fault, 2 refused, and then
 //!
 //! | Answer | Bits 48 to 55 | Rest |
 //! |---|---|---|
 //! | passed | 0 | bits 0 to 31 the places |
 //! | fault | its number | bits 32 to 47 the address, 0 to 31 the steps |
-//! | ran | why it ended | bits 24 to 47 the items, 0 to 23 the steps |
+//! | ran | 0 | bits 0 to 7 why it ended |
 //! | refused | 0 | bits 0 to 7 its number |
 
 use crate::device::{End, Ran, Refused};
@@ -57,6 +59,7 @@ mod ffi {
             sights_length: usize,
             items: *mut u16,
             items_length: usize,
+            counts: *mut [usize; 2],
         ) -> u64;
     }
 }
@@ -91,6 +94,7 @@ impl Proved {
         list: &mut [[u16; 8]],
     ) -> Result<Ran, Refused> {
         let items = list.as_flattened_mut();
+        let mut counts = [0; 2];
         // SAFETY: as above.
         let answer = unsafe {
             ffi::khaonuat_run(
@@ -103,9 +107,10 @@ impl Proved {
                 sights.len(),
                 items.as_mut_ptr(),
                 items.len(),
+                &mut counts,
             )
         };
-        ran_of(answer)
+        ran_of(answer, counts)
     }
 }
 
@@ -139,12 +144,12 @@ fn verdict_of(answer: u64) -> Verdict {
 }
 
 #[cfg_attr(not(feature = "proved"), allow(dead_code))]
-fn ran_of(answer: u64) -> Result<Ran, Refused> {
+fn ran_of(answer: u64, [steps, items]: [usize; 2]) -> Result<Ran, Refused> {
     match answer >> 56 {
         0 => Ok(Ran {
-            steps: (answer & 0xFF_FFFF) as usize,
-            end: End::of_number((answer >> 48) as u8).unwrap_or_else(|| panic!("no end of a run: {answer:#018x}")),
-            items: (answer >> 24 & 0xFF_FFFF) as usize,
+            steps,
+            end: End::of_number(answer as u8).unwrap_or_else(|| panic!("no end of a run: {answer:#018x}")),
+            items,
         }),
         2 => Err(Refused(answer as u8)),
         _ => panic!("no answer of a run: {answer:#018x}"),

@@ -113,9 +113,16 @@ impl Device {
         self.resting_place(self.before(from))
     }
 
-    /// The first character on a way that no order cuts short; new lines are passed over.
-    fn resting_place(&self, mut way: impl Iterator<Item = u16>) -> Option<u16> {
-        way.find(|&at| self.in_order(at) || self.data(at) != NEW_LINE).filter(|&at| !self.in_order(at))
+    /// Where a cursor rests on a way: one location on, and further while it stands on a new line, but never at an order.
+    fn resting_place(&self, way: impl Iterator<Item = u16>) -> Option<u16> {
+        let mut rest = None;
+        for at in way.take_while(|&at| !self.in_order(at)) {
+            rest = Some(at);
+            if self.data(at) != NEW_LINE {
+                break;
+            }
+        }
+        rest
     }
 
     /// Where a jump leads to: regeneration is followed on a copy to the first unprotected characters, or until it stops
@@ -172,6 +179,17 @@ mod tests {
         moves([SM, 0x40, A, B, C, D], 4, Key::Backspace, 3);
         moves([SM, 0x40, A, NL, B], 4, Key::Backspace, 2);
         moves([SM, 0x40, A, B, C], 2, Key::Backspace, 2);
+    }
+
+    #[test]
+    fn new_line_at_either_end_of_a_field() {
+        moves([SM, 0x40, A, NL, SM, 0x81], 2, Key::Advance, 3);
+        moves([SM, 0x40, A, NL, SM, 0x81], 3, Key::Advance, 3);
+        moves([SM, 0x40, NL, A, B, C], 3, Key::Backspace, 2);
+        moves([SM, 0x40, NL, A, B, C], 2, Key::Backspace, 2);
+        let typed = |bytes: [u8; 6], cursor| pressed(bytes, cursor, Key::Character(X));
+        assert_eq!(typed([SM, 0x40, A, NL, SM, 0x81], 2), ([SM, 0x40, X, NL, SM, 0x81], Some(3)));
+        assert_eq!(typed([SM, 0x40, A, NL, SM, 0x81], 3), ([SM, 0x40, A, NL, SM, 0x81], Some(3)));
     }
 
     #[test]

@@ -1,58 +1,59 @@
--- A dump loaded into a fresh unit, its switch set, the unit started by Set Buffer Address and Start and run: the answer in one number, from
--- the top: a byte that says which, why the run ended, three bytes of items, three of steps.
+-- A dump loaded into a fresh unit, its switch set, the unit started by Set Buffer Address and Start and run: the answer in one number, the list,
+-- and two numbers lent for the steps done and the items listed.
 use mathlib.Core.Bool.{Bool}
 use mathlib.Core.List.{List, [], _∷_}
-use Prim.Native.Nat.{ℕ, _+_, _*_, _/_, _%_}
+use Prim.Native.Nat.{ℕ, _/_, _%_}
 use Rattle.ground_setup.specs.declared.Size.the-variants.{K4}
-use Rattle.ground_refusals.specs.Refusals.{refusalNumber}
+use Rattle.unit_head.specs.Head.{DisplayUnit, freshUnit, switchedUnit}
+use Rattle.unit_loading.specs.Loading.{LoadValues, LoadEnd, unitLoad}
+use Rattle.unit_commands.specs.Commands.{CommandValues, CommandEnd, unitCommand}
+use Rattle.unit_run.specs.Run.{RunValues, RunEnd, unitRun}
 use Rattle.capi_packed.specs.Packed.{refusedNumber}
-use Rattle.device_2250.specs.Device.{freshOf, switchedOf, loadOf, commandOf, runOf, listOf}
-use Rattle.device_2250.specs.declared.Device.{Device}
-use Rattle.unit_loading.specs.declared.LoadReply.{LoadReply}
-use Rattle.unit_loading.specs.declared.LoadReply.the-variants as answer
-use Rattle.device_2250.specs.declared.Answered.{Answered}
-use Rattle.unit_commands.specs.declared.Reply.{Reply}
-use Rattle.unit_commands.specs.declared.Reply.the-variants as reply
-use Rattle.unit_step.specs.Step.{endNumber}
-use Rattle.unit_run.specs.declared.RunReply.{RunReply}
-use Rattle.unit_run.specs.declared.RunReply.the-variants as outcome
 
-abbrev pub outcomeNumber : RunReply → ℕ
-outcomeNumber (outcome.Done steps e items) = endNumber e * 0x1000000000000 + items % 0x1000000 * 0x1000000 + steps % 0x1000000
-outcomeNumber (outcome.Refused r) = refusedNumber (refusalNumber r)
+-- what the call answers and leaves
+pub record RunCall : Type 0 where
+  pub number : ℕ
+  pub list : List ℕ
+  pub counts : List ℕ
+
+abbrev pub runCall : ℕ → List ℕ → List ℕ → RunCall
+runCall n list c = record { number = n; list = list; counts = c }
+
+-- a refusal changes nothing that was lent
+abbrev pub refusedCall : ℕ → List ℕ → List ℕ → RunCall
+refusedCall n list c = runCall (refusedNumber n) list c
+
+-- a run: why it ended, and the steps done and the items listed in full
+abbrev pub ranNumber : RunValues → ℕ
+ranNumber (RunValues.ran steps why items) = why
+ranNumber (RunValues.refused n) = refusedNumber n
+
+abbrev pub ranCounts : RunValues → List ℕ → List ℕ
+ranCounts (RunValues.ran steps why items) c = steps ∷ items ∷ []
+ranCounts (RunValues.refused n) c = c
+
+abbrev pub ranCall : RunEnd → List ℕ → RunCall
+ranCall e c = runCall (ranNumber (e .answer)) (e .list) (ranCounts (e .answer) c)
 
 -- the run of a unit whose start was answered so: a refused one does not run
-abbrev pub repliedNumber : Device → List ℕ → List ℕ → Reply → ℕ
-repliedNumber d sights out (reply.Status status count) = outcomeNumber (runOf d sights out .answer)
-repliedNumber d sights out (reply.Refused r) = refusedNumber (refusalNumber r)
+abbrev pub repliedCall : DisplayUnit → List ℕ → List ℕ → List ℕ → CommandValues → RunCall
+repliedCall u sights out c (CommandValues.ended status count) = ranCall (unitRun u sights out) c
+repliedCall u sights out c (CommandValues.refused n) = refusedCall n out c
 
-abbrev pub repliedList : Device → List ℕ → List ℕ → Reply → List ℕ
-repliedList d sights out (reply.Status status count) = listOf d sights out
-repliedList d sights out (reply.Refused r) = out
+-- the unit started by the command with its two bytes
+abbrev pub startedCall : CommandEnd → List ℕ → List ℕ → List ℕ → RunCall
+startedCall e sights out c = repliedCall (e .unit) sights out c (e .answer)
 
--- the unit that the command with its two bytes leaves, and its answer
-abbrev pub started : Device → ℕ → Answered
-started d start = commandOf d 0x27 (start / 0x100 ∷ start % 0x100 ∷ []) (0 ∷ []) .answered
-
-abbrev pub startedNumber : Device → ℕ → List ℕ → List ℕ → ℕ
-startedNumber d start sights out = repliedNumber (started d start .device) sights out (started d start .answer)
-
-abbrev pub startedList : Device → ℕ → List ℕ → List ℕ → List ℕ
-startedList d start sights out = repliedList (started d start .device) sights out (started d start .answer)
+abbrev pub startsAt : DisplayUnit → ℕ → CommandEnd
+startsAt u start = unitCommand u 0x27 (start / 0x100 ∷ start % 0x100 ∷ []) (0 ∷ [])
 
 -- a dump that is refused is not run
-abbrev pub startedNumberBy : Device → ℕ → Bool → List ℕ → List ℕ → LoadReply → ℕ
-startedNumberBy d start closed sights out answer.Done = startedNumber (switchedOf d closed) start sights out
-startedNumberBy d start closed sights out (answer.Refused r) = refusedNumber (refusalNumber r)
+abbrev pub loadedCall : DisplayUnit → ℕ → Bool → List ℕ → List ℕ → List ℕ → LoadValues → RunCall
+loadedCall u start closed sights out c LoadValues.loaded = startedCall (startsAt (switchedUnit u closed) start) sights out c
+loadedCall u start closed sights out c (LoadValues.refused n) = refusedCall n out c
 
-abbrev pub startedListBy : Device → ℕ → Bool → List ℕ → List ℕ → LoadReply → List ℕ
-startedListBy d start closed sights out answer.Done = startedList (switchedOf d closed) start sights out
-startedListBy d start closed sights out (answer.Refused r) = out
+abbrev pub loadsTo : LoadEnd → ℕ → Bool → List ℕ → List ℕ → List ℕ → RunCall
+loadsTo e start closed sights out c = loadedCall (e .unit) start closed sights out c (e .answer)
 
-unfoldable pub loadedNumber : ℕ → List ℕ → ℕ → Bool → List ℕ → List ℕ → ℕ
-loadedNumber size dump start closed sights out =
-    startedNumberBy (loadOf (freshOf K4) size dump .device) start closed sights out (loadOf (freshOf K4) size dump .answer)
-
-unfoldable pub loadedList : ℕ → List ℕ → ℕ → Bool → List ℕ → List ℕ → List ℕ
-loadedList size dump start closed sights out =
-    startedListBy (loadOf (freshOf K4) size dump .device) start closed sights out (loadOf (freshOf K4) size dump .answer)
+unfoldable pub callOf : ℕ → List ℕ → ℕ → Bool → List ℕ → List ℕ → List ℕ → RunCall
+callOf size dump start closed sights out c = loadsTo (unitLoad (freshUnit 8192 K4) size dump) start closed sights out c

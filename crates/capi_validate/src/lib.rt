@@ -7,12 +7,12 @@ use validator_verdict as validator;
 use validator_verdict::Verdict;
 ghost use mathlib.Core.Path.{_≡_};
 ghost use lib.ListN.{length};
-ghost use Rattle.validator_verdict.specs.Verdict.{valuesOf, triedOf};
+ghost use Rattle.validator_verdict.specs.Verdict.{verdictValues, triedOf};
 ghost use Rattle.capi_validate.specs.Told.{verdictNumber, VerdictTold};
 
 // The number that answers a verdict.
 fn verdict_number(verdict: Verdict) -> u64
-    ensures { λ r. ⌜ r ≡ verdictNumber (valuesOf verdict) ⌝ }
+    ensures { λ r. ⌜ r ≡ verdictNumber (verdictValues verdict) ⌝ }
 {
     match verdict {
         Verdict::Passed(places) => places as u64 % 0x100000000,

@@ -31,15 +31,15 @@ pub fed-joined : (d : Dialogue) (kept kept₁ kept₂ kept₃ a b out out₁ out
     ≡ take (u .end) out₅ ++ toCome (u .dialogue) kept₃ rest
 fed-joined d kept kept₁ kept₂ kept₃ a b out out₁ out₂ out₃ out₄ out₅ s t u first second both rest =
     sym (answers-joined d (s .dialogue) (t .dialogue) kept kept₁ kept₂ a b (take (s .end) out₁) (take (t .end) out₃)
-    (all d kept kept₁ a out out₁ s first)
-    (all (s .dialogue) kept₁ kept₂ b out₂ out₃ t second)
+    (all-taken d kept kept₁ a out out₁ s first)
+    (all-taken (s .dialogue) kept₁ kept₂ b out₂ out₃ t second)
     rest)
-    ∙ all d kept kept₃ (a ++ b) out₄ out₅ u both rest
+    ∙ all-taken d kept kept₃ (a ++ b) out₄ out₅ u both rest
   where
-    all : (d : Dialogue) (kept kept′ piece out out′ : List ℕ) (t : Taken)
+    all-taken : (d : Dialogue) (kept kept′ piece out out′ : List ℕ) (t : Taken)
         → (TakesIn d kept piece out 0 t kept′ out′ × (t .used ≡ length piece))
         → Answers d kept piece (take (t .end) out′) (t .dialogue) kept′
-    all d kept kept′ piece out out′ t p =
+    all-taken d kept kept′ piece out out′ t p =
         subst (λ (l : List ℕ). Answers d kept l (take (t .end) out′) (t .dialogue) kept′)
         (ap (λ (n : ℕ). take n piece) (p .1) ∙ take-length piece)
         (answers-put d kept kept′ piece out out′ t (p .0))

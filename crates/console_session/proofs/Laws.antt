@@ -9,17 +9,19 @@ use borrow.Author.Tests.{le-leb, lt-leb}
 use Rattle.text_put.proofs.Laws.{Puts}
 use Rattle.device_2250.specs.declared.Device.{Device}
 use Rattle.console_session.specs.declared.Spoken.{Spoken}
-use Rattle.unit_step.specs.Step.{endNumber}
-use Rattle.unit_step.specs.declared.End.{End}
 use Rattle.console_replies.specs.Replies.{errorLine, ranLine}
 use Rattle.console_pictures.specs.Pictures.{itemsText}
-use Rattle.device_2250.specs.declared.Ran.{Ran}
+use Rattle.unit_head.specs.Head.{DisplayUnit}
+use Rattle.unit_loading.specs.Loading.{unitLoad}
+use Rattle.unit_commands.specs.Commands.{unitCommand}
+use Rattle.unit_run.specs.Run.{runValues, unitRun}
 use Rattle.unit_run.specs.declared.RunReply.{RunReply}
 use Rattle.unit_run.specs.declared.RunReply.the-variants.{Done}
-use Rattle.device_2250.specs.Device.{loadOf, commandOf}
+use Rattle.unit_step.specs.Step.{endNumber}
+use Rattle.unit_step.specs.declared.End.{End}
 use Rattle.console_script.specs.Script.{restOf, requestOf}
 use Rattle.console_decode.specs.Decode.{bytesIn, sightsIn}
-use Rattle.console_session.specs.Session.{Said, said, loadSaid, commandSaid, ranTold, ranSaid, runSaid, bytesSent, dumpSent, sightsSent, saidBy, saidOf, Speaks}
+use Rattle.console_session.specs.Session.{Said, said, loadSaid, commandSaid, runTold, runSaid, bytesSent, dumpSent, sightsSent, saidBy, saidOf, Speaks}
 
 pub speaks-as : {s t : Said} {buffer : List ℕ} {at : ℕ} {after : List ℕ} {told : Spoken} → s ≡ t
     → Speaks s buffer at after told
@@ -42,38 +44,36 @@ part-zero size n h =
 pub part-length : (size n : ℕ) → n ≤ size → length (take (n - 0) (drop 0 (replicate {A = ℕ} size 0))) ≡ n
 part-length size n h = ap length (part-zero size n h) ∙ length-replicate n 0
 
+-- what is said of a run that was done
+pub run-end : (d : Device) (list : List ℕ) {o : RunReply} {steps why items : ℕ} {e : End} → o ≡ Done steps e items → why ≡ endNumber e
+    → said d (ranLine steps why items ++ itemsText list items) ≡ runTold d (runValues o) list
+run-end d list {o} {steps} {why} {items} {e} told h =
+    ap (λ (n : ℕ). said d (ranLine steps n items ++ itemsText list items)) h ∙ ap (λ (o : RunReply). runTold d (runValues o) list) (sym told)
+
 -- what is said, by equal parts
-pub command-as : (d : Device) (code : ℕ) (text : List ℕ) {n m : ℕ} {room rest : List ℕ} → n ≡ m → room ≡ rest
-    → commandSaid (commandOf d code (bytesIn text n) room) ≡ commandSaid (commandOf d code (bytesIn text m) rest)
-command-as d code text {n} {m} {room} {rest} e f =
-    ap (λ (n : ℕ). commandSaid (commandOf d code (bytesIn text n) room)) e
-    ∙ ap (λ (room : List ℕ). commandSaid (commandOf d code (bytesIn text m) room)) f
+module _ (u : DisplayUnit) where
+  pub command-as : (code : ℕ) (text : List ℕ) {n m : ℕ} {room rest : List ℕ} → n ≡ m → room ≡ rest
+      → commandSaid (unitCommand u code (bytesIn text n) room) ≡ commandSaid (unitCommand u code (bytesIn text m) rest)
+  command-as code text {n} {m} {room} {rest} e f =
+      ap (λ (n : ℕ). commandSaid (unitCommand u code (bytesIn text n) room)) e
+      ∙ ap (λ (room : List ℕ). commandSaid (unitCommand u code (bytesIn text m) room)) f
 
-pub run-as : (d : Device) (text : List ℕ) {n m : ℕ} {list rest : List ℕ} → n ≡ m → list ≡ rest
-    → runSaid d (sightsIn text n) list ≡ runSaid d (sightsIn text m) rest
-run-as d text {n} {m} {list} {rest} e f =
-    ap (λ (n : ℕ). runSaid d (sightsIn text n) list) e ∙ ap (runSaid d (sightsIn text m)) f
+  pub run-as : (text : List ℕ) {n m : ℕ} {list rest : List ℕ} → n ≡ m → list ≡ rest
+      → runSaid (unitRun u (sightsIn text n) list) ≡ runSaid (unitRun u (sightsIn text m) rest)
+  run-as text {n} {m} {list} {rest} e f =
+      ap (λ (n : ℕ). runSaid (unitRun u (sightsIn text n) list)) e ∙ ap (λ (l : List ℕ). runSaid (unitRun u (sightsIn text m) l)) f
 
-pub ran-as : {r q : Ran} {l m : List ℕ} → r ≡ q → l ≡ m → ranSaid r l ≡ ranSaid q m
-ran-as {r} {q} {l} {m} e f = ap (λ (x : Ran). ranSaid x l) e ∙ ap (ranSaid q) f
+  pub load-of-text : (size : ℕ) {t w : List ℕ} → t ≡ w
+      → loadSaid (unitLoad u size (dumpSent t)) ≡ loadSaid (unitLoad u size (dumpSent w))
+  load-of-text size e = ap (λ (t : List ℕ). loadSaid (unitLoad u size (dumpSent t))) e
 
-pub ran-end : (d : Device) (list : List ℕ) {o : RunReply} {steps why items : ℕ} {e : End} → o ≡ Done steps e items
-    → why ≡ endNumber e
-    → said d (ranLine steps why items ++ itemsText list items) ≡ ranTold d o list
-ran-end d list {o} {steps} {why} {items} {e} told h =
-    ap (λ (n : ℕ). said d (ranLine steps n items ++ itemsText list items)) h
-    ∙ ap (λ (o : RunReply). ranTold d o list) (sym told)
+  pub command-of-text : (code : ℕ) (room : List ℕ) {t w : List ℕ} → t ≡ w
+      → commandSaid (unitCommand u code (bytesSent t) room) ≡ commandSaid (unitCommand u code (bytesSent w) room)
+  command-of-text code room e = ap (λ (t : List ℕ). commandSaid (unitCommand u code (bytesSent t) room)) e
 
-pub load-of-text : (d : Device) (size : ℕ) {t u : List ℕ} → t ≡ u
-    → loadSaid (loadOf d size (dumpSent t)) ≡ loadSaid (loadOf d size (dumpSent u))
-load-of-text d size e = ap (λ (t : List ℕ). loadSaid (loadOf d size (dumpSent t))) e
-
-pub command-of-text : (d : Device) (code : ℕ) (room : List ℕ) {t u : List ℕ} → t ≡ u
-    → commandSaid (commandOf d code (bytesSent t) room) ≡ commandSaid (commandOf d code (bytesSent u) room)
-command-of-text d code room e = ap (λ (t : List ℕ). commandSaid (commandOf d code (bytesSent t) room)) e
-
-pub run-of-text : (d : Device) (list : List ℕ) {t u : List ℕ} → t ≡ u → runSaid d (sightsSent t) list ≡ runSaid d (sightsSent u) list
-run-of-text d list e = ap (λ (t : List ℕ). runSaid d (sightsSent t) list) e
+  pub run-of-text : (list : List ℕ) {t w : List ℕ} → t ≡ w
+      → runSaid (unitRun u (sightsSent t) list) ≡ runSaid (unitRun u (sightsSent w) list)
+  run-of-text list e = ap (λ (t : List ℕ). runSaid (unitRun u (sightsSent t) list)) e
 
 -- what stands behind a space is no longer than the line
 pub rest-shorter : (line : List ℕ) → length (restOf line) ≤ length line

@@ -1,7 +1,7 @@
 -- No answer has more than 471,200 bytes: a run's line and the lines of its items, 4,096 of them at most, each of 115 bytes at most.
 use Prim.Native.Nat.{ℕ, suc, _+_, _*_, _/_, _≤_, min}
 use mathlib.Core.Path.{_≡_, refl, _∙_}
-use mathlib.Core.Bool.{Bool, true, false, cond, _&&_}
+use mathlib.Core.Bool.{Bool, true, false, cond}
 use mathlib.Core.List.{List, [], _∷_, _++_}
 use native.Mathlib.Omega.{arith}
 use lib.ListN.{length, getD, replicate, length-append, length-replicate}
@@ -10,46 +10,42 @@ use lib.Dec.{eqb, leb, ltb}
 use borrow.Author.Tests.{leb-true, ltb-false}
 use Rattle.text_put.specs.Text.{spelled, hexByte, hexWord}
 use Rattle.text_put.proofs.Digits.{length-decimal}
+use Rattle.ground_words.proofs.Laws.{either-way}
 use Rattle.ground_orders.specs.declared.Mode.{Mode}
 use Rattle.ground_orders.specs.declared.Mode.the-variants as mode
 use Rattle.ground_orders.specs.declared.PenMode.{PenMode}
 use Rattle.ground_orders.specs.declared.PenMode.the-variants as pen
 use Rattle.ground_refusals.specs.Refusals.{refusalNumber}
-use Rattle.ground_refusals.specs.declared.Refusal.{Refusal}
-use Rattle.ground_setup.specs.Setup.{sizeOf, wrapOf, sizedOf}
+use Rattle.ground_setup.specs.Setup.{sizeOf, wrapOf, aheadOf, sizedOf}
 use Rattle.ground_setup.specs.declared.Size.{Size}
 use Rattle.ground_setup.specs.declared.Size.the-variants.{K4, K8}
 use Rattle.ground_setup.specs.declared.Sized.{Sized}
 use Rattle.ground_setup.specs.declared.Sized.the-variants as sized
 use Rattle.unit_buffer.specs.declared.Read.{Read}
-use Rattle.unit_buffer.specs.Buffer.{nextOf, foundAt, readsOn, readFrom}
-use Rattle.unit_codes.specs.Codes.{classOf, sentBy, allowed}
-use Rattle.unit_codes.specs.declared.Class.{Class}
-use Rattle.unit_codes.specs.declared.Class.the-variants.{Kept, Write, Stopped, Address, Alarm, Invalid}
+use Rattle.unit_buffer.specs.Buffer.{foundAt, readsOn, readFrom}
+use Rattle.unit_codes.specs.Codes.{rowOf, sentBy}
+use Rattle.unit_codes.specs.declared.Command.{Command}
+use Rattle.unit_codes.specs.declared.Command.the-variants.{TestIo, WriteBuffer, ReadBuffer, NoOperation, Sense, ReadCursor, SetAndStop, Alarm, InsertCursor, ReadXy, RemoveCursor, SetAndStart, Invalid}
+use Rattle.unit_codes.specs.declared.CommandRow.{CommandRow}
 use Rattle.unit_codes.specs.declared.Sent.{Sent}
 use Rattle.unit_codes.specs.declared.Sent.the-variants as sent
-use Rattle.unit_commands.specs.Commands.{CommandEnd, Given, giving, reset, fourCount, readBy, doneOf, triedCommand, commandBy, unitCommand}
-use Rattle.unit_commands.specs.declared.Reply.{Reply}
-use Rattle.unit_commands.specs.declared.Reply.the-variants as reply
+use Rattle.unit_sense.specs.Sense.{fourCount}
+use Rattle.unit_commands.specs.Commands.{CommandValues, CommandEnd, reset, readBy, doneOf, allowed, triedCommand, commandBy, unitCommand}
 use Rattle.unit_cursor.specs.Cursor.{Buffer, anySet}
-use Rattle.unit_head.specs.Head.{DisplayUnit, unit, bufferOf}
+use Rattle.unit_head.specs.Head.{DisplayUnit, sizeIn, bufferOf}
 use Rattle.unit_head.specs.declared.Head.{Head}
 use Rattle.unit_head.specs.declared.State.{State}
 use Rattle.unit_items.specs.Items.{numbers, fits, listed}
 use Rattle.unit_items.specs.declared.Item.{Item}
-use Rattle.unit_loading.specs.declared.LoadReply.{LoadReply}
-use Rattle.unit_loading.specs.declared.LoadReply.the-variants as load
-use Rattle.unit_run.specs.Run.{isDone, outBy, turnOf, outOf, listBy, outFrom, allSights, unitList}
-use Rattle.unit_run.specs.declared.RunReply.{RunReply}
-use Rattle.unit_run.specs.declared.RunReply.the-variants as ran
+use Rattle.unit_loading.specs.Loading.{LoadValues, unitLoad}
+use Rattle.unit_run.specs.Run.{isDone, outBy, turnOf, outOf, listBy, outFrom, allSights, RunValues, RunEnd, unitRun}
 use Rattle.unit_run.specs.declared.Turn.{Turn}
 use Rattle.unit_run.specs.declared.Turn.the-variants.{On, Last, NotDone}
-use Rattle.unit_step.specs.Step.{lookAt, advanceOf, itemsDrawn, endNumber}
+use Rattle.unit_step.specs.Step.{lookAt, advanceOf, itemsDrawn}
 use Rattle.unit_step.specs.declared.Stepped.{Stepped}
 use Rattle.unit_step.specs.declared.Stepped.the-variants.{Goes, Stops}
-use Rattle.typing_keys.specs.declared.KeyReply.{KeyReply}
-use Rattle.typing_keys.specs.declared.KeyReply.the-variants as key
-use Rattle.device_2250.specs.Device.{unitOf, loadOf, commandOf, runOf, listOf, keyOf, anyCursor}
+use Rattle.typing_keys.specs.Keys.{KeyValues, unitKey}
+use Rattle.device_2250.specs.Device.{unitOf, deviceOf, anyCursor}
 use Rattle.device_2250.specs.declared.Device.{Device}
 use Rattle.console_phrases.proofs.Laws.{each-short}
 use Rattle.console_conditions.specs.Conditions.{modeText, penModeText, stateLine}
@@ -59,16 +55,13 @@ use Rattle.console_replies.specs.Replies.{refusalLine, ranLine}
 use Rattle.console_script.specs.Script.{restOf, requestOf}
 use Rattle.console_script.specs.declared.Request.{Request}
 use Rattle.console_script.specs.declared.Request.the-variants as request
-use Rattle.console_session.specs.Session.{Said, freshSaid, loadTold, replySaid, ranTold, keyTold, bytesSent, dumpSent, sightsSent, saidBy, saidOf, Fits}
+use Rattle.console_session.specs.Session.{Said, freshSaid, loadTold, commandTold, runTold, keyTold, bytesSent, dumpSent, sightsSent, saidBy, saidOf, Fits}
 use Rattle.console_session.proofs.Fits.{request-fits}
 
--- what holds by a test, and what holds either way
+-- what holds by a test holds of the way taken
 by-test : {A : Type 0} (P : A → Type 0) (t : Bool) {a b : A} → (t ≡ true → P a) → (t ≡ false → P b) → P (cond t a b)
 by-test P true p q = p refl
 by-test P false p q = q refl
-
-either-way : {A : Type 0} (P : A → Type 0) (t : Bool) {a b : A} → P a → P b → P (cond t a b)
-either-way P t p q = by-test P t (λ e. p) (λ e. q)
 
 abbrev Short : ℕ → List ℕ → Type 0
 Short most text = length text ≤ most
@@ -84,7 +77,7 @@ vector-short x₀ y₀ x y a =
 
 symbol-short : (word : List ℕ) (x y code size a : ℕ) → length word ≤ 10 → Short 115 (symbolLine word x y code size a)
 symbol-short word x y code size a h =
-    let sized = either-way (Short 6) (eqb size 1) {a = spelled " basic"} {b = spelled " large"} (omega arith) (omega arith) in
+    let sized = either-way (Short 6) (eqb size 1) {x = spelled " basic"} {y = spelled " large"} (omega arith) (omega arith) in
     simp length-append (omega (arith, sized, length-decimal 20 x, length-decimal 20 y, length-decimal 20 a))
 
 item-short : (kind x₀ y₀ x y code size a : ℕ) → Short 115 (itemLine kind x₀ y₀ x y code size a)
@@ -124,81 +117,75 @@ run-length b (g ∷ gs) s items out =
     by (Last s′ items′ end) more e = e
     by (NotDone s′ end) more e = e
 
-list-length : (d : Device) (sights out : List ℕ) → As-long out (listOf d sights out)
-unfolding listOf unitList
-list-length d sights out =
-    either-way (As-long out) (allSights sights && d .head .state .running)
-    (run-length (bufferOf (unitOf d)) sights (d .head .state) 0 out)
-    refl
+list-length : (u : DisplayUnit) (sights out : List ℕ) → As-long out (unitRun u sights out .list)
+unfolding unitRun
+list-length u sights out =
+    let P : RunEnd → Type 0 = λ e. As-long out (e .list) in
+    either-way P (allSights sights) (either-way P (u .head .state .running) (run-length (bufferOf u) sights (u .head .state) 0 out) refl) refl
 
 -- a command gives no more bytes than its room has
-abbrev GivesAtMost : ℕ → Reply → Type 0
-GivesAtMost most (reply.Status status count) = count ≤ most
-GivesAtMost most (reply.Refused r) = Unit {0}
+abbrev GivesAtMost : ℕ → CommandValues → Type 0
+GivesAtMost most (CommandValues.ended status count) = count ≤ most
+GivesAtMost most (CommandValues.refused n) = Unit {0}
 
 abbrev Ends-within : List ℕ → CommandEnd → Type 0
-Ends-within room end = GivesAtMost (length room) (end .answered .answer)
+Ends-within room end = GivesAtMost (length room) (end .answer)
 
 read-count : (b : Buffer) (s : Size) (seek : Bool) (a n : ℕ) (room : List ℕ) → readFrom b s seek a n room .count ≤ n + length room
 unfolding readFrom
 read-count b s seek a n [] = omega arith
 read-count b s seek a n (x ∷ room) =
-    let more = read-count b s seek (nextOf s a) (n + 1) room in
+    let more = read-count b s seek (aheadOf s a 1) (n + 1) room in
     either-way (λ (r : Read). r .count ≤ n + suc (length room)) (readsOn (foundAt b seek a) (getD (b .words) a 0)) (omega arith) (omega arith)
 
-read-gives : (u : DisplayUnit) (seek : Bool) (room : List ℕ) → Ends-within room (giving (u .words) (readBy u seek room))
-read-gives u seek room =
-    let s : Size = u .head .state .setup .size in
-    omega (arith, read-count (bufferOf u) s seek (wrapOf s (u .head .state .address)) 0 room)
+read-gives : (u : DisplayUnit) (seek : Bool) (room : List ℕ) → Ends-within room (readBy u seek room)
+read-gives u seek room = omega (arith, read-count (bufferOf u) (sizeIn u) seek (wrapOf (sizeIn u) (u .head .state .address)) 0 room)
 
 four-count : (room : List ℕ) → fourCount room ≤ length room
 four-count room =
     by-test (λ (n : ℕ). n ≤ length room) (ltb (length room) 4) (λ e. omega arith) (λ e. omega (arith, ltb-false (length room) 4 e))
 
-done-gives : (u : DisplayUnit) (k : Class) (code : ℕ) (bytes room : List ℕ) → Ends-within room (doneOf u k code bytes room)
-done-gives u Kept code bytes room =
-    let P : Given → Type 0 = λ g. Ends-within room (giving (u .words) g) in
-    either-way P (eqb code 0x00) (omega arith) (either-way P (eqb code 0x03) (omega arith) (four-count room))
-done-gives u Write code bytes room = omega arith
-done-gives u Stopped code bytes room =
-    let u′ : DisplayUnit = unit (u .words) (reset (u .head)) in
-    either-way (Ends-within room) (eqb code 0x02) (read-gives u′ false room)
-    (either-way (Ends-within room) (eqb code 0x06) (read-gives u′ (anySet (u′ .head .cursor)) room)
-    (either-way (Ends-within room) (eqb code 0x0F) (omega arith)
-    (either-way (Ends-within room) (eqb code 0x12) (four-count room) (omega arith))))
-done-gives u Address code bytes room = omega arith
-done-gives u Alarm code bytes room = omega arith
-done-gives u Invalid code bytes room = omega arith
+done-gives : (u : DisplayUnit) (k : Command) (bytes room : List ℕ) → Ends-within room (doneOf u k bytes room)
+done-gives u TestIo bytes room = omega arith
+done-gives u WriteBuffer bytes room = omega arith
+done-gives u ReadBuffer bytes room = read-gives (reset u) false room
+done-gives u NoOperation bytes room = omega arith
+done-gives u Sense bytes room = four-count room
+done-gives u ReadCursor bytes room = read-gives (reset u) (anySet (u .head .cursor)) room
+done-gives u SetAndStop bytes room = omega arith
+done-gives u Alarm bytes room = omega arith
+done-gives u InsertCursor bytes room = omega arith
+done-gives u ReadXy bytes room = four-count room
+done-gives u RemoveCursor bytes room = omega arith
+done-gives u SetAndStart bytes room = omega arith
+done-gives u Invalid bytes room = omega arith
 
-command-gives : (d : Device) (code : ℕ) (bytes room : List ℕ) → GivesAtMost (length room) (commandOf d code bytes room .answered .answer)
-unfolding commandOf unitCommand triedCommand
-command-gives d code bytes room = by (sentBy (u .head .state .setup .size) k code bytes)
+command-gives : (u : DisplayUnit) (code : ℕ) (bytes room : List ℕ) → Ends-within room (unitCommand u code bytes room)
+unfolding unitCommand triedCommand
+command-gives u code bytes room = by (sentBy (sizeIn u) (this-row .takes) bytes)
   where
-    u : DisplayUnit
-    u = unitOf d
+    this-row : CommandRow
+    this-row = rowOf code
 
-    k : Class
-    k = classOf code
-
-    by : (sent : Sent) → Ends-within room (commandBy u k code bytes room sent)
+    by : (sent : Sent) → Ends-within room (commandBy u this-row bytes room sent)
     by (sent.Refused r) = tt
     by sent.Fit =
         either-way (Ends-within room) (eqb (u .head .status) 0)
-        (either-way (Ends-within room) (allowed k (u .head .state .running)) (done-gives u k code bytes room) (omega arith))
+        (either-way (Ends-within room) (allowed (this-row .running) (u .head .state .running)) (done-gives u (this-row .command) bytes room) (omega arith))
         (omega arith)
 
 -- the lines of the answers
 abbrev ShortSaid : Said → Type 0
 ShortSaid s = Short 471200 (s .text)
 
-refusal-short : (r : Refusal) → Short 471200 (refusalLine (refusalNumber r))
-refusal-short r = simp length-append (omega (arith, length-decimal 20 (refusalNumber r)))
+refusal-short : (n : ℕ) → Short 471200 (refusalLine n)
+refusal-short n = simp length-append (omega (arith, length-decimal 20 n))
 
 status-short : (status : ℕ) (room : List ℕ) (count : ℕ) → count ≤ 65535 → Short 471200 (statusLine status room count)
 status-short status room count h =
     let bytes = each-short (λ i. hexByte (getD room i 0)) 2 (λ i. omega arith) count in
     let given =
-    either-way (Short 400000) (eqb count 0) {a = spelled "\n"} {b = spelled " " ++ bytesText room count ++ spelled "\n"} (omega arith)
+    either-way (Short 400000) (eqb count 0) {x = spelled "\n"} {y = spelled " " ++ bytesText room count ++ spelled "\n"} (omega arith)
     (simp length-append (omega arith)) in
     simp length-append (omega arith)
 
@@ -245,51 +232,51 @@ state-short h =
 -- what is said for each request
 fresh-within : (d : Device) (size : Sized) → ShortSaid (freshSaid d size)
 fresh-within d (sized.Of s) = omega arith
-fresh-within d (sized.Refused r) = refusal-short r
+fresh-within d (sized.Refused r) = refusal-short (refusalNumber r)
 
-load-within : (d : Device) (answer : LoadReply) → ShortSaid (loadTold d answer)
-load-within d load.Done = omega arith
-load-within d (load.Refused r) = refusal-short r
+load-within : (d : Device) (answer : LoadValues) → ShortSaid (loadTold d answer)
+load-within d LoadValues.loaded = omega arith
+load-within d (LoadValues.refused n) = refusal-short n
 
-reply-within : (d : Device) (answer : Reply) (room : List ℕ) (most : ℕ) → most ≤ 65535 → GivesAtMost most answer → ShortSaid (replySaid d answer room)
-reply-within d (reply.Status status count) room most h gives = status-short status room count (omega arith)
-reply-within d (reply.Refused r) room most h gives = refusal-short r
+command-within : (d : Device) (answer : CommandValues) (room : List ℕ) (most : ℕ) → most ≤ 65535 → GivesAtMost most answer → ShortSaid (commandTold d answer room)
+command-within d (CommandValues.ended status count) room most h gives = status-short status room count (omega arith)
+command-within d (CommandValues.refused n) room most h gives = refusal-short n
 
-ran-within : (d : Device) (answer : RunReply) (list : List ℕ) → length list ≤ 32768 → ShortSaid (ranTold d answer list)
-ran-within d (ran.Done steps end items) list h = ran-short steps (endNumber end) items list h
-ran-within d (ran.Refused r) list h = refusal-short r
+run-within : (d : Device) (answer : RunValues) (list : List ℕ) → length list ≤ 32768 → ShortSaid (runTold d answer list)
+run-within d (RunValues.ran steps why items) list h = ran-short steps why items list h
+run-within d (RunValues.refused n) list h = refusal-short n
 
-key-within : (d : Device) (answer : KeyReply) → ShortSaid (keyTold d answer)
-key-within d (key.Refused r) = refusal-short r
-key-within d key.Unheard = omega arith
-key-within d (key.Heard stored to) = omega arith
+key-within : (d : Device) (answer : KeyValues) → ShortSaid (keyTold d answer)
+key-within d (KeyValues.refused n) = refusal-short n
+key-within d KeyValues.unheard = omega arith
+key-within d (KeyValues.heard stored to) = omega arith
 
 by-within : (d : Device) (line : List ℕ) (r : Request) → Fits r → ShortSaid (saidBy d line r)
 by-within d line (request.Fresh size) fit = fresh-within d (sizedOf size)
 by-within d line (request.Load size) fit =
-    let loaded = loadOf d size (dumpSent (restOf (restOf line))) in
-    load-within (loaded .device) (loaded .answer)
+    let end = unitLoad (unitOf d) size (dumpSent (restOf (restOf line))) in
+    load-within (deviceOf (end .unit)) (end .answer)
 by-within d line (request.Command code room) fit =
     let bytes : List ℕ = bytesSent (restOf (restOf (restOf line))) in
     let lent : List ℕ = replicate room 0 in
-    let outcome = commandOf d code bytes lent in
-    reply-within (outcome .answered .device) (outcome .answered .answer) (outcome .room) (length lent)
+    let end = unitCommand (unitOf d) code bytes lent in
+    command-within (deviceOf (end .unit)) (end .answer) (end .room) (length lent)
     (omega (arith, length-replicate {A = ℕ} room 0))
-    (command-gives d code bytes lent)
+    (command-gives (unitOf d) code bytes lent)
 by-within d line request.Halt fit = omega arith
 by-within d line request.SwitchOpen fit = omega arith
 by-within d line request.SwitchClosed fit = omega arith
 by-within d line (request.Run room) fit =
     let sights : List ℕ = sightsSent (restOf (restOf line)) in
     let lent : List ℕ = replicate (8 * room) 0 in
-    let ran = runOf d sights lent in
-    ran-within (ran .device) (ran .answer) (listOf d sights lent)
-    (omega (arith, list-length d sights lent, length-replicate {A = ℕ} (8 * room) 0))
+    let end = unitRun (unitOf d) sights lent in
+    run-within (deviceOf (end .unit)) (end .answer) (end .list)
+    (omega (arith, list-length (unitOf d) sights lent, length-replicate {A = ℕ} (8 * room) 0))
 by-within d line request.State fit = state-short (d .head)
 by-within d line (request.Words from count) fit = words-short (d .words) (d .head .state .setup .size) from count
 by-within d line (request.Key number) fit =
-    let keyed = keyOf d number in
-    key-within (keyed .device) (keyed .answer)
+    let end = unitKey (unitOf d) number in
+    key-within (deviceOf (end .unit)) (end .answer)
 by-within d line request.Cursor fit = either-way (Short 471200) (anyCursor d) (omega arith) (omega arith)
 by-within d line request.Empty fit = omega arith
 by-within d line request.Error fit = omega arith

@@ -7,28 +7,19 @@ use lib.ListN.{length, replicate}
 use lib.Dec.{leb}
 use Rattle.text_put.specs.Text.{spelled, putAt, endOf}
 use Rattle.ground_refusals.specs.Refusals.{refusalNumber}
-use Rattle.ground_refusals.specs.declared.Refusal.{Refusal}
 use Rattle.ground_setup.specs.Setup.{sizeOf, sizedOf}
-use Rattle.unit_step.specs.Step.{endNumber}
 use Rattle.console_replies.specs.Replies.{okLine, errorLine, refusalLine, heardLine, ranLine}
 use Rattle.console_contents.specs.Contents.{statusLine, wordsLine}
 use Rattle.console_pictures.specs.Pictures.{itemsText}
 use Rattle.console_conditions.specs.Conditions.{stateLine}
-use Rattle.device_2250.specs.Device.{freshOf, switchedOf, anyCursor, loadOf, Outcome, commandOf, runOf, listOf, keyOf}
+use Rattle.device_2250.specs.Device.{unitOf, deviceOf, freshOf, switchedOf, anyCursor}
 use Rattle.device_2250.specs.declared.Device.{Device}
 use Rattle.ground_setup.specs.declared.Sized.{Sized}
 use Rattle.ground_setup.specs.declared.Sized.the-variants as sized
-use Rattle.unit_loading.specs.declared.LoadReply.{LoadReply}
-use Rattle.unit_loading.specs.declared.LoadReply.the-variants as load
-use Rattle.device_2250.specs.declared.Loaded.{Loaded}
-use Rattle.unit_commands.specs.declared.Reply.{Reply}
-use Rattle.unit_commands.specs.declared.Reply.the-variants as reply
-use Rattle.unit_run.specs.declared.RunReply.{RunReply}
-use Rattle.unit_run.specs.declared.RunReply.the-variants as ran
-use Rattle.device_2250.specs.declared.Ran.{Ran}
-use Rattle.typing_keys.specs.declared.KeyReply.{KeyReply}
-use Rattle.typing_keys.specs.declared.KeyReply.the-variants as key
-use Rattle.device_2250.specs.declared.Keyed.{Keyed}
+use Rattle.unit_loading.specs.Loading.{LoadValues, LoadEnd, unitLoad}
+use Rattle.unit_commands.specs.Commands.{CommandValues, CommandEnd, unitCommand}
+use Rattle.unit_run.specs.Run.{RunValues, RunEnd, unitRun}
+use Rattle.typing_keys.specs.Keys.{KeyValues, KeyEnd, unitKey}
 use Rattle.console_script.specs.Script.{restOf, requestOf}
 use Rattle.console_script.specs.declared.Request.{Request}
 use Rattle.console_script.specs.declared.Request.the-variants as request
@@ -44,49 +35,46 @@ abbrev pub said : Device → List ℕ → Said
 said d text = record { device = d; text = text }
 
 -- `refused N`
-abbrev pub refusedSaid : Device → Refusal → Said
-refusedSaid d r = said d (refusalLine (refusalNumber r))
+abbrev pub refusedSaid : Device → ℕ → Said
+refusedSaid d n = said d (refusalLine n)
 
 -- `fresh SIZE`: `ok` or `refused N`
 abbrev pub freshSaid : Device → Sized → Said
 freshSaid d (sized.Of s) = said (freshOf s) okLine
-freshSaid d (sized.Refused r) = refusedSaid d r
+freshSaid d (sized.Refused r) = refusedSaid d (refusalNumber r)
 
 -- `load SIZE WORDS`: `ok` or `refused N`
-abbrev pub loadTold : Device → LoadReply → Said
-loadTold d load.Done = said d okLine
-loadTold d (load.Refused r) = refusedSaid d r
+abbrev pub loadTold : Device → LoadValues → Said
+loadTold d LoadValues.loaded = said d okLine
+loadTold d (LoadValues.refused n) = refusedSaid d n
 
-abbrev pub loadSaid : Loaded → Said
-loadSaid l = loadTold (l .device) (l .answer)
+abbrev pub loadSaid : LoadEnd → Said
+loadSaid e = loadTold (deviceOf (e .unit)) (e .answer)
 
 -- `command CODE ROOM [DATA]`: "`status SS` and, if bytes were given, a space and the bytes; or `refused N`"
-abbrev pub replySaid : Device → Reply → List ℕ → Said
-replySaid d (reply.Status status count) room = said d (statusLine status room count)
-replySaid d (reply.Refused r) room = refusedSaid d r
+abbrev pub commandTold : Device → CommandValues → List ℕ → Said
+commandTold d (CommandValues.ended status count) room = said d (statusLine status room count)
+commandTold d (CommandValues.refused n) room = refusedSaid d n
 
-abbrev pub commandSaid : Outcome → Said
-commandSaid o = replySaid (o .answered .device) (o .answered .answer) (o .room)
+abbrev pub commandSaid : CommandEnd → Said
+commandSaid e = commandTold (deviceOf (e .unit)) (e .answer) (e .room)
 
 -- `run ROOM [SIGHTS]`: "`ran STEPS end WHY items N`, then a line for each item; or `refused 8`"
-abbrev pub ranTold : Device → RunReply → List ℕ → Said
-ranTold d (ran.Done steps end items) list = said d (ranLine steps (endNumber end) items ++ itemsText list items)
-ranTold d (ran.Refused r) list = refusedSaid d r
+abbrev pub runTold : Device → RunValues → List ℕ → Said
+runTold d (RunValues.ran steps why items) list = said d (ranLine steps why items ++ itemsText list items)
+runTold d (RunValues.refused n) list = refusedSaid d n
 
-abbrev pub ranSaid : Ran → List ℕ → Said
-ranSaid r list = ranTold (r .device) (r .answer) list
-
-abbrev pub runSaid : Device → List ℕ → List ℕ → Said
-runSaid d sights list = ranSaid (runOf d sights list) (listOf d sights list)
+abbrev pub runSaid : RunEnd → Said
+runSaid e = runTold (deviceOf (e .unit)) (e .answer) (e .list)
 
 -- `key CC`, `key advance`, `key backspace`, `key jump`: "`unheard`, `heard` or, where the number is unknown, `refused 13`"
-abbrev pub keyTold : Device → KeyReply → Said
-keyTold d (key.Refused r) = refusedSaid d r
-keyTold d key.Unheard = said d (heardLine false)
-keyTold d (key.Heard stored to) = said d (heardLine true)
+abbrev pub keyTold : Device → KeyValues → Said
+keyTold d (KeyValues.refused n) = refusedSaid d n
+keyTold d KeyValues.unheard = said d (heardLine false)
+keyTold d (KeyValues.heard stored to) = said d (heardLine true)
 
-abbrev pub keySaid : Keyed → Said
-keySaid k = keyTold (k .device) (k .answer)
+abbrev pub keySaid : KeyEnd → Said
+keySaid e = keyTold (deviceOf (e .unit)) (e .answer)
 
 -- `state`: the state line
 abbrev pub stateSaid : Device → Said
@@ -114,16 +102,16 @@ sightsSent text = sightsIn text (length text)
 -- lent is zero
 abbrev pub saidBy : Device → List ℕ → Request → Said
 saidBy d line (request.Fresh size) = freshSaid d (sizedOf size)
-saidBy d line (request.Load size) = loadSaid (loadOf d size (dumpSent (restOf (restOf line))))
+saidBy d line (request.Load size) = loadSaid (unitLoad (unitOf d) size (dumpSent (restOf (restOf line))))
 saidBy d line (request.Command code room) =
-    commandSaid (commandOf d code (bytesSent (restOf (restOf (restOf line)))) (replicate room 0))
+    commandSaid (unitCommand (unitOf d) code (bytesSent (restOf (restOf (restOf line)))) (replicate room 0))
 saidBy d line request.Halt = said d okLine
 saidBy d line request.SwitchOpen = said (switchedOf d false) okLine
 saidBy d line request.SwitchClosed = said (switchedOf d true) okLine
-saidBy d line (request.Run room) = runSaid d (sightsSent (restOf (restOf line))) (replicate (8 * room) 0)
+saidBy d line (request.Run room) = runSaid (unitRun (unitOf d) (sightsSent (restOf (restOf line))) (replicate (8 * room) 0))
 saidBy d line request.State = stateSaid d
 saidBy d line (request.Words from count) = wordsSaid d from count
-saidBy d line (request.Key number) = keySaid (keyOf d number)
+saidBy d line (request.Key number) = keySaid (unitKey (unitOf d) number)
 saidBy d line request.Cursor = cursorSaid d
 saidBy d line request.Empty = said d []
 saidBy d line request.Error = said d errorLine

@@ -27,9 +27,13 @@ ghost use mathlib.Core.List.{[]};
 ghost use Prim.Native.Nat.{_*_, _≤_};
 ghost use lib.ListN.{length, replicate};
 ghost use Rattle.console_replies.specs.Replies.{okLine, errorLine};
-ghost use Rattle.device_2250.specs.Device.{loadOf, commandOf};
+ghost use Rattle.ground_refusals.specs.Refusals.{refusalNumber};
+ghost use Rattle.unit_loading.specs.Loading.{unitLoad};
+ghost use Rattle.unit_commands.specs.Commands.{commandValues, unitCommand};
+ghost use Rattle.unit_run.specs.Run.{unitRun};
+ghost use Rattle.device_2250.specs.Device.{unitOf, loadLeaves, runLeaves, keyLeaves};
 ghost use Rattle.console_decode.specs.Decode.{bytesIn, wordsIn, sightsIn};
-ghost use Rattle.console_session.specs.Session.{said, refusedSaid, freshSaid, loadSaid, replySaid, commandSaid, ranSaid, runSaid, keySaid, stateSaid, cursorSaid, wordsSaid, bytesSent, dumpSent, sightsSent, Fits, saidBy, saidOf, Speaks};
+ghost use Rattle.console_session.specs.Session.{said, refusedSaid, freshSaid, loadSaid, commandTold, commandSaid, runSaid, keySaid, stateSaid, cursorSaid, wordsSaid, bytesSent, dumpSent, sightsSent, Fits, saidBy, saidOf, Speaks};
 
 // The device after a request, and where its answer ends.
 pub struct Spoken {
@@ -47,7 +51,7 @@ fn done(device: Device, lines: &mut [u8], at: usize) -> Spoken
 
 // A request that is refused.
 fn refused(device: Device, refusal: Refusal, lines: &mut [u8], at: usize) -> Spoken
-    ensures { λ r. ⌜ Speaks (refusedSaid device refusal) (now (lines .entry)) at (now (lines .exit)) r ⌝ }
+    ensures { λ r. ⌜ Speaks (refusedSaid device (refusalNumber refusal)) (now (lines .entry)) at (now (lines .exit)) r ⌝ }
 {
     let number = refusals::refusal_number(refusal);
     let end = replies::put_refused(lines, at, number);
@@ -82,7 +86,7 @@ fn fresh_by(device: Device, size: Sized, lines: &mut [u8], at: usize) -> Spoken
 
 // A dump that was loaded, or refused.
 fn loaded_by(loaded: Loaded, lines: &mut [u8], at: usize) -> Spoken
-    ensures { λ r. ⌜ Speaks (loadSaid loaded) (now (lines .entry)) at (now (lines .exit)) r ⌝ }
+    ensures { λ r. ⌜ Speaks (loadSaid (loadLeaves loaded)) (now (lines .entry)) at (now (lines .exit)) r ⌝ }
 {
     let device = loaded.device;
     let answer = loaded.answer;
@@ -101,7 +105,7 @@ fn load_through(
     lines: &mut [u8],
     at: usize,
 ) -> Spoken
-    ensures { λ r. ⌜ Speaks (loadSaid (loadOf device size (wordsIn (now (text .entry)) (length (now (dump .entry)))))) (now (lines .entry)) at (now (lines .exit)) r ⌝ }
+    ensures { λ r. ⌜ Speaks (loadSaid (unitLoad (unitOf device) size (wordsIn (now (text .entry)) (length (now (dump .entry)))))) (now (lines .entry)) at (now (lines .exit)) r ⌝ }
 {
     decode::read_words(text, dump);
     loaded_by(device::load(device, size, dump), lines, at)
@@ -110,7 +114,7 @@ fn load_through(
 // Loads the words of a text.
 fn load_text(device: Device, size: usize, text: &[u8], lines: &mut [u8], at: usize) -> Spoken
     requires { ⌜ length (now text) ≤ 40000 ⌝ }
-    ensures { λ r. ⌜ Speaks (loadSaid (loadOf device size (dumpSent (now (text .entry))))) (now (lines .entry)) at (now (lines .exit)) r ⌝ }
+    ensures { λ r. ⌜ Speaks (loadSaid (unitLoad (unitOf device) size (dumpSent (now (text .entry))))) (now (lines .entry)) at (now (lines .exit)) r ⌝ }
 {
     let mut dump = [0u16; 10000];
     let count = text.len() / 4;
@@ -119,7 +123,7 @@ fn load_text(device: Device, size: usize, text: &[u8], lines: &mut [u8], at: usi
 
 // A command's status, with the bytes that it gave, or its refusal.
 fn replied(device: Device, reply: Reply, room: &[u8], lines: &mut [u8], at: usize) -> Spoken
-    ensures { λ r. ⌜ Speaks (replySaid device reply (now (room .entry))) (now (lines .entry)) at (now (lines .exit)) r ⌝ }
+    ensures { λ r. ⌜ Speaks (commandTold device (commandValues reply) (now (room .entry))) (now (lines .entry)) at (now (lines .exit)) r ⌝ }
 {
     match reply {
         Reply::Status(status, count) => {
@@ -140,7 +144,7 @@ fn command_through(
     lines: &mut [u8],
     at: usize,
 ) -> Spoken
-    ensures { λ r. ⌜ Speaks (commandSaid (commandOf device code (bytesIn (now (text .entry)) (length (now (bytes .entry)))) (now (room .entry)))) (now (lines .entry)) at (now (lines .exit)) r ⌝ }
+    ensures { λ r. ⌜ Speaks (commandSaid (unitCommand (unitOf device) code (bytesIn (now (text .entry)) (length (now (bytes .entry)))) (now (room .entry)))) (now (lines .entry)) at (now (lines .exit)) r ⌝ }
 {
     decode::read_bytes(text, bytes);
     let answered = device::command(device, code, bytes, room);
@@ -159,7 +163,7 @@ fn command_text(
     at: usize,
 ) -> Spoken
     requires { ⌜ (count ≤ 65535) × (length (now text) ≤ 40000) ⌝ }
-    ensures { λ r. ⌜ Speaks (commandSaid (commandOf device code (bytesSent (now (text .entry))) (replicate count 0))) (now (lines .entry)) at (now (lines .exit)) r ⌝ }
+    ensures { λ r. ⌜ Speaks (commandSaid (unitCommand (unitOf device) code (bytesSent (now (text .entry))) (replicate count 0))) (now (lines .entry)) at (now (lines .exit)) r ⌝ }
 {
     let mut bytes = [0u8; 20000];
     let mut room = [0u8; 65535];
@@ -177,7 +181,7 @@ fn command_text(
 
 // A run's steps, end and items, or its refusal.
 fn ran_by(ran: Ran, list: &[u16], lines: &mut [u8], at: usize) -> Spoken
-    ensures { λ r. ⌜ Speaks (ranSaid ran (now (list .entry))) (now (lines .entry)) at (now (lines .exit)) r ⌝ }
+    ensures { λ r. ⌜ Speaks (runSaid (runLeaves ran (now (list .entry)))) (now (lines .entry)) at (now (lines .exit)) r ⌝ }
 {
     let device = ran.device;
     let answer = ran.answer;
@@ -201,7 +205,7 @@ fn run_through(
     lines: &mut [u8],
     at: usize,
 ) -> Spoken
-    ensures { λ r. ⌜ Speaks (runSaid device (sightsIn (now (text .entry)) (length (now (sights .entry)))) (now (list .entry))) (now (lines .entry)) at (now (lines .exit)) r ⌝ }
+    ensures { λ r. ⌜ Speaks (runSaid (unitRun (unitOf device) (sightsIn (now (text .entry)) (length (now (sights .entry)))) (now (list .entry)))) (now (lines .entry)) at (now (lines .exit)) r ⌝ }
 {
     decode::read_sights(text, sights);
     let ran = device::run(device, sights, list);
@@ -211,7 +215,7 @@ fn run_through(
 // Runs the unit over the sights of a text with room for so many items.
 fn run_text(device: Device, room: usize, text: &[u8], lines: &mut [u8], at: usize) -> Spoken
     requires { ⌜ (room ≤ 4096) × (length (now text) ≤ 40000) ⌝ }
-    ensures { λ r. ⌜ Speaks (runSaid device (sightsSent (now (text .entry))) (replicate (8 * room) 0)) (now (lines .entry)) at (now (lines .exit)) r ⌝ }
+    ensures { λ r. ⌜ Speaks (runSaid (unitRun (unitOf device) (sightsSent (now (text .entry))) (replicate (8 * room) 0))) (now (lines .entry)) at (now (lines .exit)) r ⌝ }
 {
     let mut sights = [0u8; 40000];
     let mut list = [0u16; 32768];
@@ -229,7 +233,7 @@ fn run_text(device: Device, room: usize, text: &[u8], lines: &mut [u8], at: usiz
 
 // A key that was heard or not, or is refused.
 fn keyed_by(keyed: Keyed, lines: &mut [u8], at: usize) -> Spoken
-    ensures { λ r. ⌜ Speaks (keySaid keyed) (now (lines .entry)) at (now (lines .exit)) r ⌝ }
+    ensures { λ r. ⌜ Speaks (keySaid (keyLeaves keyed)) (now (lines .entry)) at (now (lines .exit)) r ⌝ }
 {
     let device = keyed.device;
     let answer = keyed.answer;

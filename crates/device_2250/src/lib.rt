@@ -25,9 +25,10 @@ ghost use lib.ListN.{getD};
 ghost use Rattle.ground_location.specs.Location.{freshWord};
 ghost use Rattle.unit_head.specs.Head.{unit};
 ghost use Rattle.unit_loading.specs.Loading.{loadEnded, unitLoad};
-ghost use Rattle.unit_commands.specs.Commands.{commandEnd, unitCommand};
+ghost use Rattle.unit_commands.specs.Commands.{commandEnded, unitCommand};
+ghost use Rattle.unit_run.specs.Run.{unitRun};
 ghost use Rattle.typing_keys.specs.Keys.{keyEnded, unitKey};
-ghost use Rattle.device_2250.specs.Device.{freshOf, switchedOf, anyCursor, loadOf, outcome, commandOf, runOf, listOf, keyOf};
+ghost use Rattle.device_2250.specs.Device.{unitOf, freshOf, switchedOf, anyCursor, loadLeaves, commandLeaves, runLeaves, keyLeaves};
 
 // The whole unit: the words of its buffer; and address, mode, beam, pen, status, sense and cursor in its head.
 pub struct Device {
@@ -71,10 +72,10 @@ pub fn fresh(size: Size) -> Device
 }
 
 // Halt I/O, which changes nothing.
-pub fn halt(device: Device) -> Device
-    ensures { λ r. ⌜ r ≡ device ⌝ }
+pub fn halt(halted: Device) -> Device
+    ensures { λ r. ⌜ r ≡ halted ⌝ }
 {
-    device
+    halted
 }
 
 // Closes or opens the pen's switch.
@@ -104,7 +105,7 @@ fn load_array(words: &mut [u16; 8192], head: Head, size: usize, dump: &[u16]) ->
 
 // Loads a dump: a fresh device of that size with these words, or a refusal and the device as it was.
 pub fn load(mut device: Device, size: usize, dump: &[u16]) -> Loaded
-    ensures { λ r. ⌜ r ≡ loadOf device size (now (dump .entry)) ⌝ }
+    ensures { λ r. ⌜ loadLeaves r ≡ unitLoad (unitOf device) size (now (dump .entry)) ⌝ }
 {
     let head = device.head;
     let loaded = load_array(&mut device.words, head, size, dump);
@@ -122,14 +123,14 @@ fn command_array(
     bytes: &[u8],
     room: &mut [u8],
 ) -> HeadAnswered
-    ensures { λ r. ⌜ commandEnd r (now (words .exit)) (now (room .exit)) ≡ unitCommand (unit (now (words .entry)) head) code (now (bytes .entry)) (now (room .entry)) ⌝ }
+    ensures { λ r. ⌜ commandEnded (now (words .exit)) r (now (room .exit)) ≡ unitCommand (unit (now (words .entry)) head) code (now (bytes .entry)) (now (room .entry)) ⌝ }
 {
     commands::command(words, head, code, bytes, room)
 }
 
 // Gives a command to the device: the bytes sent with it, and the room lent for what it reads.
 pub fn command(mut device: Device, code: u8, bytes: &[u8], room: &mut [u8]) -> Answered
-    ensures { λ r. ⌜ outcome r (now (room .exit)) ≡ commandOf device code (now (bytes .entry)) (now (room .entry)) ⌝ }
+    ensures { λ r. ⌜ commandLeaves r (now (room .exit)) ≡ unitCommand (unitOf device) code (now (bytes .entry)) (now (room .entry)) ⌝ }
 {
     let head = device.head;
     let answered = command_array(&mut device.words, head, code, bytes, room);
@@ -141,7 +142,7 @@ pub fn command(mut device: Device, code: u8, bytes: &[u8], room: &mut [u8]) -> A
 
 // Runs the unit, one step for each sight, and lists what is drawn, eight numbers an item.
 pub fn run(mut device: Device, sights: &[u8], out: &mut [u16]) -> Ran
-    ensures { λ r. ⌜ (r ≡ runOf device (now (sights .entry)) (now (out .entry))) × (now (out .exit) ≡ listOf device (now (sights .entry)) (now (out .entry))) ⌝ }
+    ensures { λ r. ⌜ runLeaves r (now (out .exit)) ≡ unitRun (unitOf device) (now (sights .entry)) (now (out .entry)) ⌝ }
 {
     let head = device.head;
     let ran = run::run(&device.words, head, sights, out);
@@ -160,7 +161,7 @@ fn key_array(words: &mut [u16; 8192], head: Head, number: u16) -> HeadKeyed
 
 // A key of this number on the alphameric keyboard.
 pub fn key(mut device: Device, number: u16) -> Keyed
-    ensures { λ r. ⌜ r ≡ keyOf device number ⌝ }
+    ensures { λ r. ⌜ keyLeaves r ≡ unitKey (unitOf device) number ⌝ }
 {
     let head = device.head;
     let keyed = key_array(&mut device.words, head, number);

@@ -1,6 +1,6 @@
 // One location of the buffer: a 16-bit word of data, cursor bit, parity bit and the house bit "written".
 //
-// The contracts cite `specs/Location.antt`; `specs/Laws.antt` says what a stored word holds.
+// The contracts cite `specs/Location.antt`; `proofs/Laws.antt` says what a stored word holds.
 ghost use mathlib.Core.Path.{_≡_};
 ghost use mathlib.Core.Bool.{cond};
 ghost use Prim.Native.Nat.{_≤_};

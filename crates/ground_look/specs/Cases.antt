@@ -108,6 +108,6 @@ abbrev pub finds : LookCase → Look
 finds c = lookOf (c .fetch) (setup (c .size)) (c .address) (c .mode)
 
 -- each case of the table holds
-pub all : map finds lookCases ≡ map (λ (c : LookCase). c .found) lookCases
+pub look-cases : map finds lookCases ≡ map (λ (c : LookCase). c .found) lookCases
 unfolding lookOf imageGroup wordsGroup wordOf orderOf findIn table ones onesIn
-all = refl
+look-cases = refl

@@ -58,13 +58,7 @@ placing Large = false
 
 -- "No order: idle, incremental and character modes take the word and go to A+2. Point and vector read A+2 and A+3 too and go to A+4."
 abbrev pub dataBy : Size → ℕ → ℕ → ℕ → Mode → Begun
-dataBy s a b₁ b₂ Idle = begun.Done (look.Two b₁ b₂ (aheadOf s a 2))
-dataBy s a b₁ b₂ Point = begun.Coordinate b₁ b₂ (aheadOf s a 4)
-dataBy s a b₁ b₂ Vector = begun.Coordinate b₁ b₂ (aheadOf s a 4)
-dataBy s a b₁ b₂ IncrementalPoint = begun.Done (look.Two b₁ b₂ (aheadOf s a 2))
-dataBy s a b₁ b₂ IncrementalVector = begun.Done (look.Two b₁ b₂ (aheadOf s a 2))
-dataBy s a b₁ b₂ Basic = begun.Done (look.Two b₁ b₂ (aheadOf s a 2))
-dataBy s a b₁ b₂ Large = begun.Done (look.Two b₁ b₂ (aheadOf s a 2))
+dataBy s a b₁ b₂ m = cond (placing m) (begun.Coordinate b₁ b₂ (aheadOf s a 4)) (begun.Done (look.Two b₁ b₂ (aheadOf s a 2)))
 
 -- "Read A and A+1. If the byte at A is 2A, this is an order: A+1 is its code."
 abbrev pub firstBy : Setup → ℕ → Mode → Group → Begun

@@ -1,15 +1,10 @@
--- The table's rule, "codes differ, none is 2A" (01, "How to write each place"): one test, computed over all rows, and the laws that it gives.
-use mathlib.Core.Path.{_≡_, refl, sym}
-use mathlib.Core.Bool.{Bool, true, false, not, _&&_}
+-- The table's rule, "codes differ, none is 2A" (01, "How to write each place"): one test, computed over all rows.
+use mathlib.Core.Bool.{Bool, true, not, _&&_}
 use mathlib.Core.List.{List, [], _∷_}
-use Prim.Native.Nat.{ℕ, zero, suc, _<_}
-use native.Mathlib.Nat.{not-suc-le-zero, le-of-suc-le-suc}
+use Prim.Native.Nat.{ℕ}
 use lib.Dec.{T, eqb}
-use borrow.Author.Tests.{eq-eqb, ne-eqb, eqb-false}
-use lib.ListN.{length, getD}
-use Rattle.ground_orders.specs.Orders.{table, findIn, orderOf}
+use Rattle.ground_orders.specs.Orders.{table}
 use Rattle.ground_orders.specs.declared.Row.{Row}
-use Rattle.ground_orders.specs.declared.Found.the-variants.{Order, Missing}
 
 -- no row has the code
 abbrev pub absent : ℕ → List Row → Bool
@@ -25,50 +20,3 @@ differ (r ∷ rs) = absent (r .code) rs && differ rs
 pub rule : T (differ table && absent 0x2A table)
 unfolding table
 rule = tt
-
-left : (a b : Bool) → T (a && b) → T a
-left true b t = tt
-left false b t = t
-
-right : (a b : Bool) → T (a && b) → T b
-right true b t = t
-right false b t = absurd t
-
-refuted : (b : Bool) → T (not b) → b ≡ false
-refuted true t = absurd t
-refuted false t = refl
-
--- a code that no row has is not found
-pub absent-missing : (code : ℕ) (rs : List Row) → T (absent code rs) → findIn rs code ≡ Missing
-unfolding findIn
-absent-missing code [] t = refl
-absent-missing code (r ∷ rs) t =
-    simp (refuted (eqb (r .code) code) (left (not (eqb (r .code) code)) (absent code rs) t))
-    (absent-missing code rs (right (not (eqb (r .code) code)) (absent code rs) t))
-
--- where codes differ, a row is found by its own code
-module _ (d : Row) where
-  absent-at : (code : ℕ) (rs : List Row) → T (absent code rs) → (k : ℕ) → k < length rs → eqb code (getD rs k d .code) ≡ false
-  absent-at code [] t k h = absurd (not-suc-le-zero h)
-  absent-at code (r ∷ rs) t zero h =
-      ne-eqb code (r .code)
-      (λ e. eqb-false (r .code) code (refuted (eqb (r .code) code) (left (not (eqb (r .code) code)) (absent code rs) t)) (sym e))
-  absent-at code (r ∷ rs) t (suc k) h = absent-at code rs (right (not (eqb (r .code) code)) (absent code rs) t) k (le-of-suc-le-suc h)
-
-  pub found-at : (rs : List Row) → T (differ rs) → (k : ℕ) → k < length rs → findIn rs (getD rs k d .code) ≡ Order (getD rs k d)
-  unfolding findIn
-  found-at [] t k h = absurd (not-suc-le-zero h)
-  found-at (r ∷ rs) t zero h = simp (eq-eqb (r .code) (r .code) refl)
-  found-at (r ∷ rs) t (suc k) h =
-      simp (absent-at (r .code) rs (left (absent (r .code) rs) (differ rs) t) k (le-of-suc-le-suc h))
-      (found-at rs (right (absent (r .code) rs) (differ rs) t) k (le-of-suc-le-suc h))
-
--- none is 2A
-pub no-2A : orderOf 0x2A ≡ Missing
-unfolding orderOf
-no-2A = absent-missing 0x2A table (right (differ table) (absent 0x2A table) rule)
-
--- codes differ: each row of the table is the one that its code finds
-pub own-code : (d : Row) (k : ℕ) → k < length table → orderOf (getD table k d .code) ≡ Order (getD table k d)
-unfolding orderOf
-own-code d k h = found-at d table (left (differ table) (absent 0x2A table) rule) k h

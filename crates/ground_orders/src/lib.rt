@@ -1,6 +1,6 @@
 // The orders of a display program: the modes that they enter, the constant table of their rows, and the look-up by a code.
 //
-// The contract cites `specs/Orders.antt`; `specs/Rule.antt` proves the table's rule.
+// The contract cites `specs/Orders.antt`; `specs/Rule.antt` has the table's rule, `proofs/Laws.antt` what it gives.
 ghost use mathlib.Core.Path.{_≡_};
 ghost use Rattle.ground_orders.specs.Orders.{orderOf};
 

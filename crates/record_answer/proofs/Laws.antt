@@ -1,6 +1,6 @@
 -- Equal payloads have the same lines; the first bytes of a record that suffice have its line; a record has one line, of 128 bytes at
 -- most, and leaves the store as it was or zero.
-use Prim.Native.Nat.{ℕ, _+_, _-_, _≤_, _<_}
+use Prim.Native.Nat.{ℕ, _+_, _≤_, _<_}
 use mathlib.Core.Path.{_≡_, refl, sym, ap, subst, _∙_}
 use mathlib.Core.Bool.{Bool, true, false, cond}
 use mathlib.Core.List.{List, _++_, append-nil}
@@ -25,7 +25,7 @@ use Rattle.record_lines.proofs.Short.{passed-short, refused-short, fault-short}
 use Rattle.record_intake.specs.Intake.{Suffices}
 use Rattle.record_intake.proofs.Laws.{need-rest}
 use Rattle.validator_store.specs.Layout.{roomOf, room-here}
-use Rattle.validator_verdict.specs.Verdict.{Values, Tried, triedBy, triedOf, Judged}
+use Rattle.validator_verdict.specs.Verdict.{VerdictValues, Tried, triedBy, triedOf, Judged}
 use Rattle.validator_verdict.proofs.Unique.{judged-unique}
 use Rattle.record_answer.specs.Answer.{verdictLine, LineOf, AnswerOf, RecordLine, LineAnswered}
 
@@ -37,7 +37,7 @@ answered-as {p} {q} {image} {number} {store} {store′} {buffer} {at} {after} {e
     subst (λ (p : Payload). LineAnswered p image number store store′ buffer at after end) e a
 
 -- AN IMAGE TOO LONG: one byte more than any buffer has, or more, and it is refused whatever it holds
-module _ (n m start room : ℕ) (image image′ s s′ : List ℕ) (v : Values) (long : 0x8001 ≤ n) (long′ : 0x8001 ≤ m) where
+module _ (n m start room : ℕ) (image image′ s s′ : List ℕ) (v : VerdictValues) (long : 0x8001 ≤ n) (long′ : 0x8001 ≤ m) where
   long-alike : (sized : Sized) → Judged (triedBy sized n start room) image start s s′ v
       → Judged (triedBy sized m start room) image′ start s s′ v
   long-alike (Of size) j =
@@ -120,7 +120,7 @@ module _ (number : ℕ) (first whole s s′ line : List ℕ) (all : length whole
       ]
 
 -- ONE LINE
-judged-alike : (t : Tried) (image : List ℕ) (start : ℕ) (s s₁ r r₁ : List ℕ) (v w : Values) → Judged t image start s s₁ v
+judged-alike : (t : Tried) (image : List ℕ) (start : ℕ) (s s₁ r r₁ : List ℕ) (v w : VerdictValues) → Judged t image start s s₁ v
     → Judged t image start r r₁ w
     → v ≡ w
 judged-alike (Tried.no n) image start s s₁ r r₁ v w x y = x .0 ∙ sym (y .0)
@@ -146,10 +146,10 @@ one-line number whole a b x y =
     (x .1 .1 .0 ∙ sym (y .1 .1 .0)) (x .1 .1 .1) (y .1 .1 .1)
 
 -- NO LINE IS LONGER THAN 128 BYTES
-verdict-short : (number : ℕ) (v : Values) → length (verdictLine number v) ≤ 128
-verdict-short number (Values.passed places) = passed-short number places
-verdict-short number (Values.fault fault address steps) = fault-short number fault address steps
-verdict-short number (Values.refused refusal) = refused-short number refusal
+verdict-short : (number : ℕ) (v : VerdictValues) → length (verdictLine number v) ≤ 128
+verdict-short number (VerdictValues.passed places) = passed-short number places
+verdict-short number (VerdictValues.fault fault address steps) = fault-short number fault address steps
+verdict-short number (VerdictValues.refused refusal) = refused-short number refusal
 
 pub line-short : (p : Payload) (image : List ℕ) (number : ℕ) (s s′ line : List ℕ) → LineOf p image number s s′ line → length line ≤ 128
 line-short (payload.Refused refusal) image number s s′ line l =
@@ -158,7 +158,7 @@ line-short (payload.Image size start) image number s s′ line l =
     subst (λ (t : List ℕ). length t ≤ 128) (sym (l .2)) (verdict-short number (l .0))
 
 -- THE STORE is left as it was, or zero
-tried-left : (t : Tried) (image : List ℕ) (start : ℕ) (s s′ : List ℕ) (v : Values) → length s ≡ 32768 → Judged t image start s s′ v
+tried-left : (t : Tried) (image : List ℕ) (start : ℕ) (s s′ : List ℕ) (v : VerdictValues) → length s ≡ 32768 → Judged t image start s s′ v
     → (s′ ≡ s) ⊎ (s′ ≡ replicate 32768 0)
 tried-left (Tried.no n) image start s s′ v size j = inl (j .1)
 tried-left (Tried.fine kind) image start s s′ v size j =

@@ -9,20 +9,20 @@ use Rattle.record_format.specs.Records.{kindIn, payloadOf}
 use Rattle.record_format.specs.declared.Payload.{Payload}
 use Rattle.record_format.specs.declared.Payload.the-variants as payload
 use Rattle.record_lines.specs.Lines.{passedLine, faultLine, refusedLine}
-use Rattle.validator_verdict.specs.Verdict.{Values, triedOf, Judged}
+use Rattle.validator_verdict.specs.Verdict.{VerdictValues, triedOf, Judged}
 
 -- the line of a verdict, in 01's numbers
-abbrev pub verdictLine : ℕ → Values → List ℕ
-verdictLine number (Values.passed places) = passedLine number places
-verdictLine number (Values.fault fault address steps) = faultLine number fault address steps
-verdictLine number (Values.refused refusal) = refusedLine number refusal
+abbrev pub verdictLine : ℕ → VerdictValues → List ℕ
+verdictLine number (VerdictValues.passed places) = passedLine number places
+verdictLine number (VerdictValues.fault fault address steps) = faultLine number fault address steps
+verdictLine number (VerdictValues.refused refusal) = refusedLine number refusal
 
 -- what is printed for a payload, and left of a working store: its refusal, or the verdict on its image
 abbrev pub LineOf : Payload → List ℕ → ℕ → List ℕ → List ℕ → List ℕ → Type 0
 LineOf (payload.Refused refusal) image number store store′ line =
     (line ≡ refusedLine number (refusalNumber refusal)) × (store′ ≡ store)
 LineOf (payload.Image size start) image number store store′ line =
-    (values : Values)
+    (values : VerdictValues)
     × (Judged (triedOf size (length image) start (length store)) image start store store′ values)
     × (line ≡ verdictLine number values)
 

@@ -15,7 +15,7 @@ ghost use lib.ListN.{drop};
 ghost use Rattle.ground_refusals.specs.Refusals.{refusalNumber};
 ghost use Rattle.text_put.specs.Text.{putAt, endOf};
 ghost use Rattle.record_format.specs.Records.{payloadOf};
-ghost use Rattle.validator_verdict.specs.Verdict.{valuesOf};
+ghost use Rattle.validator_verdict.specs.Verdict.{verdictValues};
 ghost use Rattle.record_answer.specs.Answer.{verdictLine, LineAnswered};
 
 // The number that a refusal is printed as.
@@ -27,8 +27,8 @@ fn number_of(refusal: Refusal) -> usize
 
 // Puts the line of a verdict.
 fn put_verdict(lines: &mut [u8], at: usize, number: usize, verdict: Verdict) -> usize
-    ensures { λ r. ⌜ r ≡ endOf (now (lines .entry)) at (verdictLine number (valuesOf verdict)) ⌝ }
-    ensures { λ _. ⌜ now (lines .exit) ≡ putAt (now (lines .entry)) at (verdictLine number (valuesOf verdict)) ⌝ }
+    ensures { λ r. ⌜ r ≡ endOf (now (lines .entry)) at (verdictLine number (verdictValues verdict)) ⌝ }
+    ensures { λ _. ⌜ now (lines .exit) ≡ putAt (now (lines .entry)) at (verdictLine number (verdictValues verdict)) ⌝ }
 {
     match verdict {
         Verdict::Passed(places) => lines::put_passed(lines, at, number, places),

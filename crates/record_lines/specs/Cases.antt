@@ -3,13 +3,13 @@ use mathlib.Core.Path.{_≡_, refl}
 use Rattle.text_put.specs.Text.{spelled, decimalIn}
 use Rattle.record_lines.specs.Lines.{passedLine, faultLine, refusedLine}
 
-pub first-line : faultLine 1 1 6 3 ≡ spelled "1 fault 1 at 6 after 3\n"
+pub fault-line : faultLine 1 1 6 3 ≡ spelled "1 fault 1 at 6 after 3\n"
 unfolding decimalIn
-first-line = refl
+fault-line = refl
 
-pub second-line : refusedLine 2 3 ≡ spelled "2 refused 3\n"
+pub refused-line : refusedLine 2 3 ≡ spelled "2 refused 3\n"
 unfolding decimalIn
-second-line = refl
+refused-line = refl
 
 pub a-whole-buffer : passedLine 10 2048 ≡ spelled "10 passed 2048\n"
 unfolding decimalIn

@@ -11,7 +11,7 @@ use Rattle.record_intake.specs.Printed.{nothing, listed}
 use Rattle.record_lines.specs.Lines.{faultLine, refusedLine}
 use Rattle.record_answer.specs.Answer.{RecordLine}
 use Rattle.validator_store.specs.Layout.{roomOf}
-use Rattle.validator_verdict.specs.Verdict.{Values, Tried, triedOf, Judged}
+use Rattle.validator_verdict.specs.Verdict.{VerdictValues, Tried, triedOf, Judged}
 use Rattle.validator_walks.proofs.Worked.{all-right}
 use Rattle.record_listing.specs.Listing.{PrintedFor}
 
@@ -41,8 +41,8 @@ first-line =
         (
           size,
           (
-            Values.fault 1 6 3,
-            subst (λ (t : Tried). Judged t (0 ∷ 0 ∷ 0 ∷ 0 ∷ 0 ∷ 0 ∷ []) 0 store left (Values.fault 1 6 3)) (sym tried) (all-right .1 .0, refl),
+            VerdictValues.fault 1 6 3,
+            subst (λ (t : Tried). Judged t (0 ∷ 0 ∷ 0 ∷ 0 ∷ 0 ∷ 0 ∷ []) 0 store left (VerdictValues.fault 1 6 3)) (sym tried) (all-right .1 .0, refl),
             refl,
           ),
         ),
@@ -61,8 +61,8 @@ second-line = (
     (
       size,
       (
-        Values.refused 3,
-        subst (λ (t : Tried). Judged t [] 1 store store (Values.refused 3)) (sym refused) (refl, refl),
+        VerdictValues.refused 3,
+        subst (λ (t : Tried). Judged t [] 1 store store (VerdictValues.refused 3)) (sym refused) (refl, refl),
         refl,
       ),
     ),

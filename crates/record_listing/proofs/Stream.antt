@@ -1,5 +1,5 @@
 -- THE WHOLE of a listing: whatever the pieces, what is given out is what is printed for all their bytes; and an input has one text.
-use Prim.Native.Nat.{ℕ, _+_, _<_, min}
+use Prim.Native.Nat.{ℕ, _<_, min}
 use mathlib.Core.Path.{_≡_, sym, ap, subst, _∙_}
 use mathlib.Core.List.{List, [], _∷_, _++_, append-assoc}
 use native.Mathlib.Omega.{arith}

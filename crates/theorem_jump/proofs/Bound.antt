@@ -11,7 +11,7 @@ use Rattle.ground_setup.proofs.Laws.{below}
 use Rattle.ground_orders.specs.declared.Mode.{Mode}
 use Rattle.validator_walks.specs.Places.{place, Proper}
 use Rattle.unit_head.specs.declared.State.{State}
-use Rattle.unit_step.specs.Step.{at}
+use Rattle.unit_step.specs.Step.{stateAt}
 use Rattle.typing_signs.specs.Signs.{evenOf}
 use Rattle.typing_seek.specs.declared.Spot.{Spot}
 use Rattle.typing_seek.specs.declared.Spot.the-variants.{At, Nowhere}
@@ -89,8 +89,8 @@ module _ (words : List ℕ) (to : ℕ) where
 
     module _ (s : State) (placed : Placed su s) where
       -- no two states before the landing have one number
-      differ : (m : ℕ) → Lands m s → Different (λ i. stateNumber (along i s)) (suc m)
-      differ m l i j h k e =
+      all-differ : (m : ℕ) → Lands m s → Different (λ i. stateNumber (along i s)) (suc m)
+      all-differ m l i j h k e =
           let a : Lands (m - i) (along i s) = lands-along i (m - i) m (omega arith) s l in
           let b : Lands (m - j) (along j s) = lands-along j (m - j) m (omega arith) s l in
           let same : Same (along i s) (along j s) = state-alike su (along i s) (along j s) (placed-along i s placed) (placed-along j s placed) e in
@@ -98,13 +98,13 @@ module _ (words : List ℕ) (to : ℕ) where
           nowhere-at (sym (a .late) ∙ by-place-and-pen words (along i s) (along j s) same (m - i) ∙ f)
 
       -- so there are no more of them than the bound
-      within : (m : ℕ) → Lands m s → suc m ≤ stepsIn (su .size)
-      within m l = at-most (stepsIn (su .size)) (suc m) (λ i. stateNumber (along i s)) (λ i h. state-lt su (along i s) (placed-along i s placed)) (differ m l)
+      within-steps : (m : ℕ) → Lands m s → suc m ≤ stepsIn (su .size)
+      within-steps m l = at-most (stepsIn (su .size)) (suc m) (λ i. stateNumber (along i s)) (λ i h. state-lt su (along i s) (placed-along i s placed)) (all-differ m l)
 
       -- what any number of steps finds, the bound finds
       found-by : (k : ℕ) → jumpFrom words (suc k) s ≡ At to → (jumpFrom words k s ≡ At to → jumpFrom words (stepsIn (su .size)) s ≡ At to)
           → (p : Spot) → jumpFrom words k s ≡ p → jumpFrom words (stepsIn (su .size)) s ≡ At to
-      found-by k e sooner Nowhere f = more (suc k) (stepsIn (su .size)) (within k (record { late = f; landed = e })) s e
+      found-by k e sooner Nowhere f = more (suc k) (stepsIn (su .size)) (within-steps k (record { late = f; landed = e })) s e
       found-by k e sooner (At b) f =
           let g : jumpFrom words (suc k) s ≡ At b = one-more words k b s f in
           let h : b ≡ to = cc in
@@ -122,4 +122,4 @@ pair-proper size a m = record { even = omega arith; inside = omega (arith, below
 pub loses-nothing : LosesNothing
 unfolding jumpOf
 loses-nothing words s a m k to e =
-    found words to (s .setup) (at s (evenOf (s .setup .size) a) m) (record { same = refl; proper = pair-proper (s .setup .size) a m }) k e
+    found words to (s .setup) (stateAt s (evenOf (s .setup .size) a) m) (record { same = refl; proper = pair-proper (s .setup .size) a m }) k e

@@ -23,7 +23,7 @@ use Rattle.unit_drawing.specs.declared.Hit.{Hit}
 use Rattle.unit_drawing.specs.declared.Hit.the-variants.{Missed}
 use Rattle.unit_drawing.specs.declared.Hit.the-variants as hit
 use Rattle.unit_head.specs.declared.State.{State}
-use Rattle.unit_step.specs.Step.{lookAt, at, motionAt, hitBy, eitherBy, advanceTo, advanceWith, advanceOf}
+use Rattle.unit_step.specs.Step.{lookAt, stateAt, motionAt, hitBy, eitherBy, advanceTo, advanceWith, advanceOf}
 use Rattle.unit_step.specs.declared.Stepped.{Stepped}
 use Rattle.unit_step.specs.declared.Stepped.the-variants as stepped
 use Rattle.typing_seek.specs.declared.Spot.{Spot}
@@ -63,7 +63,7 @@ module _ (words : List ℕ) (s : State) (running : Bool) (beam : Beam) where
   abbrev other : State
   other = record { setup = s .setup; address = s .address; mode = s .mode; running = running; beam = beam; pen = s .pen }
 
-  enters : (m : Mode) (next : ℕ) (p : Spot) → SameHop (hopBy (stepped.Goes (at s next m)) p) (hopBy (stepped.Goes (at other next m)) p)
+  enters : (m : Mode) (next : ℕ) (p : Spot) → SameHop (hopBy (stepped.Goes (stateAt s next m)) p) (hopBy (stepped.Goes (stateAt other next m)) p)
   enters m next (At a) = refl
   enters m next Nowhere = search
 

@@ -10,7 +10,7 @@ use Rattle.ground_orders.specs.declared.PenMode.the-variants.{Normal, Disabled,
 use Rattle.unit_pen.specs.declared.Pen.{Pen}
 use Rattle.validator_walks.specs.Places.{place, numberOf}
 use Rattle.unit_head.specs.declared.State.{State}
-use Rattle.unit_step.specs.Step.{at}
+use Rattle.unit_step.specs.Step.{stateAt}
 use Rattle.typing_signs.specs.Signs.{evenOf}
 use Rattle.typing_seek.specs.declared.Spot.the-variants.{At}
 use Rattle.typing_jump.specs.Jump.{jumpFrom, jumpOf}
@@ -48,4 +48,4 @@ stateNumber s = numberOf (s .setup .size) (place (s .address) (s .mode)) * 48 + 
 -- where a search from the cursor's place that is followed for any number of steps finds unprotected characters, jump finds them
 abbrev pub LosesNothing : Type 0
 LosesNothing =
-    (words : List ℕ) (s : State) (a : ℕ) (m : Mode) (k to : ℕ) → jumpFrom words k (at s (evenOf (s .setup .size) a) m) ≡ At to → jumpOf words s a m ≡ At to
+    (words : List ℕ) (s : State) (a : ℕ) (m : Mode) (k to : ℕ) → jumpFrom words k (stateAt s (evenOf (s .setup .size) a) m) ≡ At to → jumpOf words s a m ≡ At to

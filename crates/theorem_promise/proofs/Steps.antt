@@ -1,5 +1,6 @@
--- One step of a unit within the walks of an image that passed: it meets no fault and no bad parity, and stays within the walks.
+-- One step of a unit within the walks of an image that passed: it meets no fault and no bad parity, and stays within the walks. Assumes nothing.
 use Prim.Native.Nat.{ℕ, suc}
+use native.Mathlib.Omega.{arith}
 use mathlib.Core.Path.{_≡_, refl, sym, _∙_, subst, ap}
 use mathlib.Core.Logic.{inl, inr}
 use mathlib.Core.Bool.{Bool, true, false, false≢true}
@@ -8,7 +9,8 @@ use Rattle.ground_setup.specs.declared.Setup.{Setup}
 use Rattle.ground_orders.specs.declared.Mode.the-variants.{Idle}
 use Rattle.ground_groups.specs.Groups.{imageGroup}
 use Rattle.ground_look.specs.Look.{faultNumber, lookOf}
-use Rattle.ground_look.specs.Loaded.{Carries, same-look}
+use Rattle.ground_look.specs.Loaded.{Carries}
+use Rattle.ground_look.proofs.Loaded.{same-look}
 use Rattle.ground_look.specs.declared.Look.{Look}
 use Rattle.ground_look.specs.declared.Look.the-variants as look
 use Rattle.unit_motion.specs.Motion.{beamAfter}
@@ -21,23 +23,49 @@ use Rattle.validator_walks.specs.declared.Place.{Place}
 use Rattle.unit_drawing.specs.declared.Hit.{Hit}
 use Rattle.unit_drawing.specs.declared.Hit.the-variants as hit
 use Rattle.unit_head.specs.declared.State.{State}
-use Rattle.unit_step.specs.Step.{lookAt, motionAt, advanceTo, advanceWith, advanceOf, hitBy, eitherBy}
+use Rattle.unit_step.specs.declared.End.{End}
+use Rattle.unit_step.specs.declared.End.the-variants as end
+use Rattle.unit_step.specs.Step.{endNumber, lookAt, motionAt, advanceTo, advanceWith, advanceOf, hitBy, eitherBy}
 use Rattle.unit_step.specs.declared.Stepped.{Stepped}
 use Rattle.unit_step.specs.declared.Stepped.the-variants as stepped
-use Rattle.theorem_promise.specs.Promise.{Sound, Within}
+use Rattle.theorem_promise.specs.Promise.{SoundEnd}
+
+-- an end of a run is sound
+abbrev pub Sound : End → Type 0
+Sound e = SoundEnd (endNumber e)
+
+pub sound-used : Sound end.SightsUsed
+sound-used = record { no-fault = λ a b. omega arith; no-check = λ e. omega arith }
+
+pub sound-order : Sound end.EndOrder
+sound-order = record { no-fault = λ a b. omega arith; no-check = λ e. omega arith }
+
+pub sound-detect : Sound end.Detect
+sound-detect = record { no-fault = λ a b. omega arith; no-check = λ e. omega arith }
+
+pub sound-full : Sound end.NoRoom
+sound-full = record { no-fault = λ a b. omega arith; no-check = λ e. omega arith }
+
+pub sound-stood : Sound end.NotRunning
+sound-stood = record { no-fault = λ a b. omega arith; no-check = λ e. omega arith }
 
 module _ (image : List ℕ) (su : Setup) (start : ℕ) where
   -- no walk, however long, meets a fault
   abbrev pub Clear : Type 0
   Clear = (k : ℕ) (p : Place) (n : ℕ) → Reach (stepOf image su) (place start Idle) k p → stepOf image su p ≡ Step.faulty n → ⊥
 
+  -- where a state runs, some walk from the start reaches its place
+  pub record Within (s : State) : Type 0 where
+    pub same : s .running ≡ true → s .setup ≡ su
+    pub reached : s .running ≡ true → Reached (stepOf image su) (place start Idle) (place (s .address) (s .mode))
+
   -- what a step leaves: it goes on within the walks, or stops soundly
   abbrev pub Kept : Stepped → Type 0
-  Kept (stepped.Goes s) = (s .running ≡ true) × Within image su start s
-  Kept (stepped.Stops s e) = Sound e × Within image su start s
+  Kept (stepped.Goes s) = (s .running ≡ true) × Within s
+  Kept (stepped.Stops s e) = Sound e × Within s
 
-  stops : (s : State) → s .setup ≡ su → s .running ≡ false → Within image su start s
-  stops s e r = record { same = e; reached = λ t. absurd (false≢true (sym r ∙ t)) }
+  pub stood : (s : State) → s .running ≡ false → Within s
+  stood s r = record { same = λ t. absurd (false≢true (sym r ∙ t)); reached = λ t. absurd (false≢true (sym r ∙ t)) }
 
   module _ (clear : Clear) (s : State) (runs : s .running ≡ true) (same : s .setup ≡ su) (k : ℕ) (here : Reach (stepOf image su) (place start Idle) k (place (s .address) (s .mode))) where
     -- a place that the step from here leads to is reached
@@ -48,30 +76,29 @@ module _ (image : List ℕ) (su : Setup) (start : ℕ) where
     goes l e q leads = onward q (subst (λ (t : Step Place). Leads t q) (sym e) leads)
 
     either-kept : (t next : ℕ) → stepOf image su (place (s .address) (s .mode)) ≡ stepBy (s .mode) (look.Either t next) → (b : Bool) → Kept (eitherBy s t next b)
-    either-kept t next e true = (runs, record { same = same; reached = λ r. goes (look.Either t next) e (place t Idle) (inl refl) })
-    either-kept t next e false = (runs, record { same = same; reached = λ r. goes (look.Either t next) e (place next Idle) (inr refl) })
+    either-kept t next e true = (runs, record { same = λ r. same; reached = λ r. goes (look.Either t next) e (place t Idle) (inl refl) })
+    either-kept t next e false = (runs, record { same = λ r. same; reached = λ r. goes (look.Either t next) e (place next Idle) (inr refl) })
 
     kept-by : (h : Hit) (l : Look) → lookOf (imageGroup image su) su (s .address) (s .mode) ≡ l → stepOf image su (place (s .address) (s .mode)) ≡ stepBy (s .mode) l → Kept (advanceTo s (beamAfter (motionAt l s) (s .beam)) h l)
     kept-by h (look.Fault f) e w = absurd (clear k _ (faultNumber f) here w)
     kept-by h (look.Check a) e w = absurd (no-check image su (s .address) (s .mode) a e)
-    kept-by h (look.Enter m next) e w = (runs, record { same = same; reached = λ r. goes (look.Enter m next) w (place next m) refl })
-    kept-by h (look.Pass next) e w = (runs, record { same = same; reached = λ r. goes (look.Pass next) w (place next Idle) refl })
-    kept-by h (look.Timer next) e w = (runs, record { same = same; reached = λ r. goes (look.Timer next) w (place next Idle) refl })
-    kept-by h (look.SetPen p next) e w = (runs, record { same = same; reached = λ r. goes (look.SetPen p next) w (place next Idle) refl })
-    kept-by h (look.End next) e w = (tt, stops _ same refl)
-    kept-by h (look.Jump t) e w = (runs, record { same = same; reached = λ r. goes (look.Jump t) w (place t Idle) refl })
+    kept-by h (look.Enter m next) e w = (runs, record { same = λ r. same; reached = λ r. goes (look.Enter m next) w (place next m) refl })
+    kept-by h (look.Pass next) e w = (runs, record { same = λ r. same; reached = λ r. goes (look.Pass next) w (place next Idle) refl })
+    kept-by h (look.Timer next) e w = (runs, record { same = λ r. same; reached = λ r. goes (look.Timer next) w (place next Idle) refl })
+    kept-by h (look.SetPen p next) e w = (runs, record { same = λ r. same; reached = λ r. goes (look.SetPen p next) w (place next Idle) refl })
+    kept-by h (look.End next) e w = (sound-order, stood _ refl)
+    kept-by h (look.Jump t) e w = (runs, record { same = λ r. same; reached = λ r. goes (look.Jump t) w (place t Idle) refl })
     kept-by h (look.Either t next) e w = either-kept t next w (transfers (s .pen))
-    kept-by hit.Missed (look.Two a b next) e w = (runs, record { same = same; reached = λ r. goes (look.Two a b next) w (place next (s .mode)) refl })
-    kept-by (hit.At a b) (look.Two c d next) e w = (tt, stops _ same refl)
-    kept-by hit.Missed (look.Four a b c d next) e w = (runs, record { same = same; reached = λ r. goes (look.Four a b c d next) w (place next (s .mode)) refl })
-    kept-by (hit.At a b) (look.Four c d f g next) e w = (tt, stops _ same refl)
+    kept-by hit.Missed (look.Two a b next) e w = (runs, record { same = λ r. same; reached = λ r. goes (look.Two a b next) w (place next (s .mode)) refl })
+    kept-by (hit.At a b) (look.Two c d next) e w = (sound-detect, stood _ refl)
+    kept-by hit.Missed (look.Four a b c d next) e w = (runs, record { same = λ r. same; reached = λ r. goes (look.Four a b c d next) w (place next (s .mode)) refl })
+    kept-by (hit.At a b) (look.Four c d f g next) e w = (sound-detect, stood _ refl)
 
     -- a step with any sight
-    pub step-kept : (words : List ℕ) → Carries words image (su .size) → (sight : ℕ) → Kept (advanceOf s (lookAt words s) sight)
+    pub step-kept : (words : List ℕ) → Carries words image → (sight : ℕ) → Kept (advanceOf s (lookAt words s) sight)
     unfolding advanceOf advanceWith stepOf
     step-kept words carries sight =
         let l : Look = lookAt words s in
-        let e : lookOf (imageGroup image su) su (s .address) (s .mode) ≡ l =
-        rw same (sym (same-look words image su carries (s .address) (s .mode)))
-        in
+        let at-image = same-look words image carries su (s .address) (s .mode) (λ f. clear k _ _ here (ap (stepBy (s .mode)) f)) in
+        let e : lookOf (imageGroup image su) su (s .address) (s .mode) ≡ l = rw same (sym at-image) in
         kept-by (hitBy s (motionAt l s) (seenOf (s .pen) sight)) l e (ap (stepBy (s .mode)) e)

@@ -1,86 +1,149 @@
 -- Demand 3's promise to a device: "A device of the same size, loaded with a passed image and started there, never stops for a fault,
--- whatever the pen sees, until it is stopped, started anew or its buffer is altered." C-13: it "ends at the first key that stores".
-use Prim.Native.Nat.{ℕ}
+-- whatever the pen sees, until it is stopped, started anew or its buffer is altered."
+use Prim.Native.Nat.{ℕ, _≤_, _<_}
 use mathlib.Core.Path.{_≡_}
-use mathlib.Core.Bool.{Bool, true, false}
+use mathlib.Core.Logic.{_≢_}
+use mathlib.Core.Bool.{Bool, true}
 use mathlib.Core.List.{List, [], _∷_}
-use Rattle.ground_setup.specs.declared.Setup.{Setup}
-use Rattle.ground_orders.specs.declared.Mode.the-variants.{Idle}
+use lib.ListN.{length, getD}
+use Rattle.ground_location.specs.Location.{Unaltered}
+use Rattle.ground_setup.specs.Setup.{sizeOf}
+use Rattle.ground_setup.specs.declared.Size.{Size}
 use Rattle.ground_look.specs.Loaded.{Carries}
-use Rattle.validator_walks.specs.Places.{place}
-use Rattle.validator_walks.specs.Steps.{stepOf}
-use Rattle.validator_walks.specs.Walks.{Reached}
 use Rattle.unit_head.specs.declared.State.{State}
-use Rattle.unit_head.specs.Head.{DisplayUnit, unit, switchedHead}
-use Rattle.unit_commands.specs.Commands.{unitAfter, unitCommand}
-use Rattle.unit_step.specs.declared.End.{End}
-use Rattle.unit_step.specs.declared.End.the-variants as end
-use Rattle.unit_run.specs.declared.RunReply.{RunReply}
-use Rattle.unit_run.specs.declared.RunReply.the-variants as outcome
-use Rattle.unit_run.specs.Run.{unitRun}
+use Rattle.unit_head.specs.Head.{DisplayUnit, sizeIn, freshUnit, switchedUnit}
+use Rattle.unit_loading.specs.Loading.{unitLoad}
+use Rattle.unit_commands.specs.Commands.{unitCommand}
+use Rattle.unit_run.specs.Run.{RunValues, unitRun}
 use Rattle.typing_keys.specs.Keys.{unitKey}
-use Rattle.theorem_typing.specs.Typing.{storedBy}
+use Rattle.validator_verdict.specs.Verdict.{VerdictValues, triedOf, Judged}
+use Rattle.theorem_roundtrips.specs.RoundTrips.{Bytes, Quiet, addressBytes, written}
+use Rattle.theorem_roundtrips.specs.Images.{dumpOf}
 
--- what may happen to a unit: a run with any sights and any room, the switch closed or opened, Halt I/O, a command with any bytes
--- and any room, and a key of any number
+-- "a passed image": the validator's own answer to it is passed, with some store and some count
+pub record Passed (image : List ℕ) (size start : ℕ) : Type 0 where
+  pub store : List ℕ
+  pub left : List ℕ
+  pub count : ℕ
+  pub judged : Judged (triedOf size (length image) start (length store)) image start store left (VerdictValues.passed count)
+
+-- "A device of the same size, loaded with": its words carry the image, whatever stands behind it, and no status waits
+pub record LoadedWith (image : List ℕ) (size : ℕ) (u : DisplayUnit) : Type 0 where
+  pub same : sizeOf (sizeIn u) ≡ size
+  pub carries : Carries (u .words) image
+  pub clear : u .head .status ≡ 0
+
+-- "started there": by Set Buffer Address and Start, with any room lent
+abbrev pub startedThere : DisplayUnit → ℕ → List ℕ → DisplayUnit
+startedThere u start room = unitCommand u 0x27 (addressBytes start) room .unit
+
+-- what may happen to a unit: a run with any sights and any room, the switch closed or opened, Halt I/O, a command of any code with any bytes
+-- and any room, a key of any number, and a load of any dump under any size
 pub data Event : Type 0 where
   ran : List ℕ → List ℕ → Event
   switched : Bool → Event
   halted : Event
   commanded : ℕ → List ℕ → List ℕ → Event
   keyed : ℕ → Event
+  loaded : ℕ → List ℕ → Event
 
 -- the unit after it
 abbrev pub afterEvent : DisplayUnit → Event → DisplayUnit
-afterEvent u (Event.ran sights out) = unit (u .words) (unitRun u sights out .head)
-afterEvent u (Event.switched closed) = unit (u .words) (switchedHead (u .head) closed)
+afterEvent u (Event.ran sights out) = unitRun u sights out .unit
+afterEvent u (Event.switched closed) = switchedUnit u closed
 afterEvent u Event.halted = u
-afterEvent u (Event.commanded code bytes room) = unitAfter (unitCommand u code bytes room)
+afterEvent u (Event.commanded code bytes room) = unitCommand u code bytes room .unit
 afterEvent u (Event.keyed number) = unitKey u number .unit
+afterEvent u (Event.loaded size dump) = unitLoad u size dump .unit
 
--- an event that the promise outlasts. "Until it is stopped, started anew or its buffer is altered": no Set Buffer Address, and no Write
--- Buffer. "Demand 3's assurance to a device ends at the first key that stores": no key that stores a character in the unit that it
--- meets. The cursor commands and all other keys move cursor bits alone, so the promise holds over them too.
-abbrev pub Harmless : DisplayUnit → Event → Type 0
-Harmless u (Event.ran sights out) = Unit {0}
-Harmless u (Event.switched closed) = Unit {0}
-Harmless u Event.halted = Unit {0}
-Harmless u (Event.commanded code bytes room) = (code ≡ 0x01 → ⊥) × (code ≡ 0x07 → ⊥) × (code ≡ 0x27 → ⊥)
-Harmless u (Event.keyed number) = storedBy (unitKey u number .answer) ≡ false
+-- "started anew" is a unit that runs and did not run before, or runs elsewhere. This one is not: if it runs, it ran, at the same place
+pub record NotStarted (s s′ : State) : Type 0 where
+  pub ran : s′ .running ≡ true → s .running ≡ true
+  pub setup : s′ .running ≡ true → s′ .setup ≡ s .setup
+  pub address : s′ .running ≡ true → s′ .address ≡ s .address
+  pub mode : s′ .running ≡ true → s′ .mode ≡ s .mode
 
--- an end that is no fault and no data check
-abbrev pub Sound : End → Type 0
-Sound end.SightsUsed = Unit {0}
-Sound (end.Fault f) = ⊥
-Sound end.EndOrder = Unit {0}
-Sound end.Detect = Unit {0}
-Sound end.DataCheck = ⊥
-Sound end.NoRoom = Unit {0}
-Sound end.NotRunning = Unit {0}
+-- "its buffer is altered" where the data or the "written" of a location change, or parity is made bad. This one's is not, though cursors
+-- may have moved
+abbrev pub BufferKept : DisplayUnit → DisplayUnit → Type 0
+BufferKept u u′ = (k : ℕ) → k < sizeOf (sizeIn u) → Unaltered (getD (u .words) k 0) (getD (u′ .words) k 0)
 
-abbrev pub SoundAnswer : RunReply → Type 0
-SoundAnswer (outcome.Done steps e items) = Sound e
-SoundAnswer (outcome.Refused r) = Unit {0}
+-- THE PROMISE OUTLASTS an event that neither starts the unit anew nor alters its buffer. A stop need not be told: a unit that stands meets no
+-- fault until it is started anew. A run does neither, whatever it comes to
+pub record GoesOn (u u′ : DisplayUnit) : Type 0 where
+  pub not-started : NotStarted (u .head .state) (u′ .head .state)
+  pub kept : BufferKept u u′
 
--- an event is no stop for a fault
+abbrev pub Outlasts : DisplayUnit → Event → Type 0
+Outlasts u (Event.ran sights out) = Unit {0}
+Outlasts u (Event.switched closed) = GoesOn u (switchedUnit u closed)
+Outlasts u Event.halted = GoesOn u u
+Outlasts u (Event.commanded code bytes room) = GoesOn u (unitCommand u code bytes room .unit)
+Outlasts u (Event.keyed number) = GoesOn u (unitKey u number .unit)
+Outlasts u (Event.loaded size dump) = GoesOn u (unitLoad u size dump .unit)
+
+-- an end of a run that is no fault, 1 to 5, and no data check, 8
+pub record SoundEnd (n : ℕ) : Type 0 where
+  pub no-fault : 1 ≤ n → n ≤ 5 → ⊥
+  pub no-check : n ≢ 8
+
+abbrev pub SoundAnswer : RunValues → Type 0
+SoundAnswer (RunValues.ran steps e items) = SoundEnd e
+SoundAnswer (RunValues.refused n) = Unit {0}
+
+-- an event is no stop for a fault: only a run can be one
 abbrev pub Undisturbed : DisplayUnit → Event → Type 0
 Undisturbed u (Event.ran sights out) = SoundAnswer (unitRun u sights out .answer)
 Undisturbed u (Event.switched closed) = Unit {0}
 Undisturbed u Event.halted = Unit {0}
 Undisturbed u (Event.commanded code bytes room) = Unit {0}
 Undisturbed u (Event.keyed number) = Unit {0}
+Undisturbed u (Event.loaded size dump) = Unit {0}
 
--- none of the events, one after the other, is such a stop, until the first that the promise does not outlast
+-- none of the events, one after the other, is such a stop, up to the first that the promise does not outlast
 abbrev pub Never : DisplayUnit → List Event → Type 0
 Never u [] = Unit {0}
-Never u (e ∷ es) = Undisturbed u e × (Harmless u e → Never (afterEvent u e) es)
+Never u (e ∷ es) = Undisturbed u e × (Outlasts u e → Never (afterEvent u e) es)
 
--- a state that is within the walks of an image: where it runs, some walk from the start reaches its place
-pub record Within (image : List ℕ) (su : Setup) (start : ℕ) (s : State) : Type 0 where
-  pub same : s .setup ≡ su
-  pub reached : s .running ≡ true → Reached (stepOf image su) (place start Idle) (place (s .address) (s .mode))
+-- THE PROMISE
+abbrev pub Promise : Type 0
+Promise =
+    (image : List ℕ) (size start : ℕ)
+    → Passed image size start
+    → (u : DisplayUnit)
+    → LoadedWith image size u
+    → (room : List ℕ) (es : List Event)
+    → Never (startedThere u start room) es
 
--- a unit that carries an image and is within its walks
-pub record Safe (image : List ℕ) (su : Setup) (start : ℕ) (u : DisplayUnit) : Type 0 where
-  pub carries : Carries (u .words) image (su .size)
-  pub within : Within image su start (u .head .state)
+-- to a unit that is loaded with the image's dump, whatever it was
+abbrev pub PromiseDump : Type 0
+PromiseDump =
+    (image : List ℕ) (s : Size) (start : ℕ)
+    → Bytes image
+    → Passed image (sizeOf s) start
+    → (u : DisplayUnit)
+    → sizeOf s ≤ length (u .words)
+    → (room : List ℕ) (es : List Event)
+    → Never (startedThere (unitLoad u (sizeOf s) (dumpOf s image) .unit) start room) es
+
+-- to a fresh unit, in an array of n words, that Write Buffer stores the image into
+abbrev pub PromiseFresh : Type 0
+PromiseFresh =
+    (image : List ℕ) (s : Size) (start : ℕ)
+    → Bytes image
+    → Passed image (sizeOf s) start
+    → (n : ℕ)
+    → sizeOf s ≤ n
+    → (lent room : List ℕ) (es : List Event)
+    → Never (startedThere (unitCommand (freshUnit n s) 0x01 image lent .unit) start room) es
+
+-- to a used unit that stands with no status waiting: Write Buffer at address 0 stores the image over what it held
+abbrev pub PromiseOver : Type 0
+PromiseOver =
+    (image : List ℕ) (start : ℕ)
+    → Bytes image
+    → (u : DisplayUnit)
+    → Quiet u
+    → Passed image (sizeOf (sizeIn u)) start
+    → (lent lent′ room : List ℕ) (es : List Event)
+    → Never (startedThere (written u 0 image lent lent′) start room) es

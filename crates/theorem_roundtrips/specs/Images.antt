@@ -1,29 +1,27 @@
--- The two ways to bring an image into a unit, by Write Buffer and by a dump: both give a buffer that carries it, and the cursor commands
--- leave it there.
+-- The two ways to bring an image into a unit, by Write Buffer and by a dump: both leave words that carry it.
 use Prim.Native.Nat.{ℕ, _-_, _≤_}
 use mathlib.Core.Path.{_≡_}
-use mathlib.Core.Bool.{Bool, true, false}
+use mathlib.Core.Bool.{true, false}
 use mathlib.Core.List.{List, _++_, map}
 use lib.ListN.{length, replicate}
 use Rattle.ground_location.specs.Location.{freshWord, wordOf}
 use Rattle.ground_setup.specs.Setup.{sizeOf}
 use Rattle.ground_setup.specs.declared.Size.{Size}
 use Rattle.ground_look.specs.Loaded.{Carries}
-use Rattle.unit_cursor.specs.Cursor.{Buffer, markedAt, setHere, clearedHere}
-use Rattle.unit_head.specs.Head.{DisplayUnit, freshUnit}
-use Rattle.unit_loading.specs.Loading.{loadEnd, freshLoaded, dumpWords, unitLoad}
-use Rattle.unit_loading.specs.declared.LoadReply.the-variants.{Done}
+use Rattle.unit_head.specs.Head.{DisplayUnit, sizeIn}
+use Rattle.unit_loading.specs.Loading.{LoadValues, loadEnd, freshLoaded, unitLoad}
 use Rattle.unit_commands.specs.Commands.{unitCommand}
-use Rattle.theorem_roundtrips.specs.RoundTrips.{Bytes}
+use Rattle.theorem_roundtrips.specs.RoundTrips.{Bytes, Quiet}
 
--- an image that Write Buffer stores into a fresh unit is carried
+-- an image that Write Buffer stores from address 0 on is carried, whatever the unit held before
 abbrev pub WrittenImage : Type 0
 WrittenImage =
-    (n : ℕ) (s : Size) (image room : List ℕ)
-    → sizeOf s ≤ n
+    (u : DisplayUnit) (image room : List ℕ)
+    → Quiet u
+    → u .head .state .address ≡ 0
     → Bytes image
-    → length image ≤ sizeOf s
-    → Carries (unitCommand (freshUnit n s) 0x01 image room .words) image s
+    → length image ≤ sizeOf (sizeIn u)
+    → Carries (unitCommand u 0x01 image room .unit .words) image
 
 -- the word that a write stores of a byte
 abbrev pub writtenWord : ℕ → ℕ
@@ -39,7 +37,7 @@ DumpLoaded =
     (u : DisplayUnit) (s : Size) (image : List ℕ)
     → Bytes image
     → length image ≤ sizeOf s
-    → unitLoad u (sizeOf s) (dumpOf s image) ≡ loadEnd (freshLoaded (length (u .words)) s (dumpOf s image)) Done
+    → unitLoad u (sizeOf s) (dumpOf s image) ≡ loadEnd (freshLoaded (length (u .words)) s (dumpOf s image)) LoadValues.loaded
 
 -- and the image is carried
 abbrev pub DumpImage : Type 0
@@ -48,13 +46,4 @@ DumpImage =
     → sizeOf s ≤ n
     → Bytes image
     → length image ≤ sizeOf s
-    → Carries (dumpWords n (dumpOf s image)) image s
-
--- "cursor commands don't" set written, and change no data: a buffer that carries an image carries it after them
-pub record CursorsKeep (b : Buffer) (image : List ℕ) (s : Size) : Type 0 where
-  pub marked : (on : Bool) (a : ℕ) → Carries (markedAt on a b .words) image s
-  pub set : (a : ℕ) → Carries (setHere a b .words) image s
-  pub cleared : (a : ℕ) → Carries (clearedHere a b .words) image s
-
-abbrev pub CursorCarries : Type 0
-CursorCarries = (b : Buffer) (image : List ℕ) (s : Size) → Carries (b .words) image s → CursorsKeep b image s
+    → Carries (freshLoaded n s (dumpOf s image) .words) image

@@ -13,7 +13,7 @@ use Rattle.unit_motion.specs.Codes.{afterCode}
 use Rattle.unit_motion.specs.declared.Motion.{Motion}
 use Rattle.unit_motion.specs.declared.Motion.the-variants.{Still, To, Codes}
 use Rattle.unit_motion.specs.Motion.{beamAfter}
-use Rattle.theorem_roundtrips.proofs.Buffers.{either-way}
+use Rattle.ground_words.proofs.Laws.{either-way}
 use Rattle.theorem_wellmade.specs.WellMade.{BeamMade}
 
 pub placed-made : (xh xl yh yl : ℕ) → xl < 256 → yl < 256 → BeamMade (placed xh xl yh yl)

@@ -6,16 +6,16 @@ use mathlib.Core.Bool.{Bool, true, false, cond, not}
 use mathlib.Core.List.{List, [], _∷_}
 use lib.Dec.{eqb}
 use borrow.Author.Tests.{eqb-true, eq-eqb}
-use Rattle.ground_setup.specs.Setup.{sizeOf, wrapOf}
+use Rattle.ground_setup.specs.Setup.{sizeOf, wrapOf, aheadOf}
 use Rattle.ground_setup.specs.declared.Size.{Size}
 use Rattle.ground_setup.proofs.Laws.{below}
 use Rattle.unit_cursor.specs.Cursor.{Buffer, cursorHere}
-use Rattle.unit_cursor.specs.Laws.{none-set, none-counted}
-use Rattle.unit_buffer.specs.Buffer.{nextOf, givenFrom, readFrom}
+use Rattle.unit_cursor.proofs.Laws.{none-set, none-counted}
+use Rattle.unit_buffer.specs.Buffer.{givenFrom, readFrom}
 use Rattle.unit_head.specs.Head.{DisplayUnit, sizeIn, bufferOf}
 use Rattle.unit_commands.specs.Commands.{readBy}
 use Rattle.typing_seek.specs.Seek.{cursorIn}
-use Rattle.typing_seek.specs.Laws.{Lowest, cursor-lowest}
+use Rattle.typing_seek.proofs.Laws.{Lowest, cursor-lowest}
 use Rattle.typing_seek.specs.declared.Spot.{Spot}
 use Rattle.typing_seek.specs.declared.Spot.the-variants.{At, Nowhere}
 use Rattle.theorem_wellmade.specs.WellMade.{WellMade}
@@ -30,12 +30,12 @@ module _ (b : Buffer) (s : Size) (bare : (k : ℕ) → k < sizeOf s → cursorHe
   given-alike : (a : ℕ) (room : List ℕ) → a < sizeOf s → givenFrom b s false a room ≡ givenFrom b s true a room
   unfolding givenFrom
   given-alike a [] h = refl
-  given-alike a (x ∷ room) h = rw (bare a h, given-alike (nextOf s a) room (below s (a + 1)))
+  given-alike a (x ∷ room) h = rw (bare a h, given-alike (aheadOf s a 1) room (below s (wrapOf s a + 1)))
 
   read-alike : (a n : ℕ) (room : List ℕ) → a < sizeOf s → readFrom b s false a n room ≡ readFrom b s true a n room
   unfolding readFrom
   read-alike a n [] h = refl
-  read-alike a n (x ∷ room) h = rw (bare a h, read-alike (nextOf s a) (n + 1) room (below s (a + 1)))
+  read-alike a n (x ∷ room) h = rw (bare a h, read-alike (aheadOf s a 1) (n + 1) room (below s (wrapOf s a + 1)))
 
   found-nowhere : (p : Spot) → Lowest b 0 (sizeOf s) p → Nowhere ≡ p
   found-nowhere Nowhere l = refl

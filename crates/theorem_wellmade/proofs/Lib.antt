@@ -2,6 +2,7 @@
 pub mod Stores
 pub mod Cursors
 pub mod Beams
+pub mod Pens
 pub mod Looks
 pub mod Strokes
 pub mod Steps

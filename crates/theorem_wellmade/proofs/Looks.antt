@@ -28,9 +28,9 @@ use Rattle.ground_look.specs.declared.Look.the-variants as look
 use Rattle.ground_look.specs.declared.Begun.{Begun}
 use Rattle.ground_look.specs.declared.Begun.the-variants as begun
 use Rattle.ground_groups.specs.Groups.{wordsGroup}
-use Rattle.ground_look.specs.Look.{orderBy, foundBy, dataBy, firstBy, secondBy, lookOf}
+use Rattle.ground_look.specs.Look.{orderBy, foundBy, placing, dataBy, firstBy, secondBy, lookOf}
 use Rattle.unit_motion.specs.Motion.{twoOf, fourOf, motionOf}
-use Rattle.theorem_roundtrips.proofs.Buffers.{either-way}
+use Rattle.ground_words.proofs.Laws.{either-way}
 use Rattle.theorem_wellmade.proofs.Beams.{MotionMade, placed-made, stepped-made}
 
 module _ (s : Size) where
@@ -88,13 +88,7 @@ module _ (su : Setup) where
     found-made (Order r) = order-made (r .length) (r .follows)
 
     data-made : (b₁ b₂ : ℕ) (m : Mode) → b₂ < 256 → BegunMade s (dataBy s a b₁ b₂ m)
-    data-made b₁ b₂ mode.Idle h = on 2
-    data-made b₁ b₂ mode.Point h = (h, on 4)
-    data-made b₁ b₂ mode.Vector h = (h, on 4)
-    data-made b₁ b₂ mode.IncrementalPoint h = on 2
-    data-made b₁ b₂ mode.IncrementalVector h = on 2
-    data-made b₁ b₂ mode.Basic h = on 2
-    data-made b₁ b₂ mode.Large h = on 2
+    data-made b₁ b₂ m h = either-way (BegunMade s) (placing m) (h, on 4) (on 2)
 
     first-made : (m : Mode) (g : Group) → GroupMade s g → BegunMade s (firstBy su a m g)
     first-made m group.Unwritten h = tt

@@ -1,13 +1,12 @@
 -- The devices that calls have made, shown: each call keeps a well-made device. Assumes nothing.
 use mathlib.Core.List.{List, [], _∷_}
 use Rattle.device_2250.specs.declared.Device.{Device}
-use Rattle.device_2250.specs.Device.{unitOf, freshOf, switchedOf, loadOf, commandOf, runOf, keyOf}
+use Rattle.device_2250.specs.Device.{unitOf, freshOf}
 use Rattle.device_2250.proofs.Laws.{houses}
 use Rattle.theorem_wellmade.specs.Made.{DeviceMade, Call, afterCall, afterCalls, AllSentBytes, CallKeeps, MadeWell}
 use Rattle.theorem_wellmade.proofs.Calls.{fresh-well, load-well, switch-well, command-well, run-well, key-well}
 
 pub call-keeps : CallKeeps
-unfolding loadOf switchedOf commandOf runOf keyOf
 call-keeps d m (Call.load size dump) sent = load-well 8192 houses (unitOf d) m size dump
 call-keeps d m (Call.switch closed) sent = switch-well 8192 (unitOf d) m closed
 call-keeps d m Call.halt sent = m

@@ -9,19 +9,19 @@ use lib.ListN.{length, getD, replicate, length-set, length-append, length-replic
 use lib.Seq.{getD-set-other}
 use borrow.Author.Tests.{eqb-true}
 use Rattle.ground_location.specs.Location.{dataOf, writtenOf, cursorOf, properOf, goodOf, wordOf, freshWord}
-use Rattle.ground_location.specs.Laws.{proper-stored}
-use Rattle.ground_setup.specs.Setup.{sizeOf, wrapOf}
+use Rattle.ground_location.proofs.Laws.{proper-stored}
+use Rattle.ground_setup.specs.Setup.{sizeOf, wrapOf, aheadOf}
 use Rattle.ground_setup.specs.declared.Size.{Size}
 use Rattle.ground_setup.proofs.Laws.{sane, below}
 use Rattle.unit_cursor.specs.Cursor.{Buffer, buffer, cursors, cursorsIn, recounted, stored, cursorHere, cursorSet, markedAt, otherOf, bareAt, setHere, clearedHere}
-use Rattle.unit_cursor.specs.Laws.{count-after-one-store, none-counted}
-use Rattle.unit_buffer.specs.Buffer.{nextOf, writtenFrom, foundAt, readsOn, readFrom}
+use Rattle.unit_cursor.proofs.Laws.{count-after-one-store, none-counted}
+use Rattle.unit_buffer.specs.Buffer.{writtenFrom, foundAt, readsOn, readFrom}
 use Rattle.unit_buffer.specs.declared.Read.{Read}
 use Rattle.unit_loading.specs.Loading.{allProper, dumpWords}
 use Rattle.unit_loading.proofs.Dumps.{dump-fits}
 use Rattle.typing_keys.specs.Keys.{cursorMoved, characterStored}
 use Rattle.theorem_roundtrips.specs.RoundTrips.{Bytes}
-use Rattle.theorem_roundtrips.proofs.Buffers.{either-way, stored-location}
+use Rattle.ground_words.proofs.Laws.{either-way, stored-location}
 use Rattle.theorem_roundtrips.proofs.Images.{fresh-at}
 use Rattle.theorem_wellmade.specs.WellMade.{BufferMade}
 
@@ -43,15 +43,15 @@ module _ (s : Size) where
   pub behind-inside : (a : ℕ) (bytes : List ℕ) (b : Buffer) → a < sizeOf s → writtenFrom s a bytes b .address < sizeOf s
   unfolding writtenFrom
   behind-inside a [] b h = h
-  behind-inside a (x ∷ bytes) b h = behind-inside (nextOf s a) bytes (stored a (wordOf x false true) b) (below s (a + 1))
+  behind-inside a (x ∷ bytes) b h = behind-inside (aheadOf s a 1) bytes (stored a (wordOf x false true) b) (below s (wrapOf s a + 1))
 
   -- the address behind a read
   pub read-inside : (b : Buffer) (seek : Bool) (a n : ℕ) (room : List ℕ) → a < sizeOf s → readFrom b s seek a n room .address < sizeOf s
   unfolding readFrom
   read-inside b seek a n [] h = h
   read-inside b seek a n (x ∷ room) h =
-      either-way (λ (r : Read). r .address < sizeOf s) (readsOn (foundAt b seek a) (getD (b .words) a 0)) (read-inside b seek (nextOf s a) (n + 1) room (below s (a + 1)))
-      (either-way (λ (x : ℕ). x < sizeOf s) (goodOf (getD (b .words) a 0)) h (below s (a + 1)))
+      either-way (λ (r : Read). r .address < sizeOf s) (readsOn (foundAt b seek a) (getD (b .words) a 0)) (read-inside b seek (aheadOf s a 1) (n + 1) room (below s (wrapOf s a + 1)))
+      (either-way (λ (x : ℕ). x < sizeOf s) (goodOf (getD (b .words) a 0)) h (below s (wrapOf s a + 1)))
 
   -- the other location of a pair is in the buffer too
   other-by : (a : ℕ) (t : Bool) → eqb (a % 2) 0 ≡ t → a < sizeOf s → cond t (a + 1) (a - 1) < sizeOf s
@@ -80,7 +80,7 @@ module _ (n : ℕ) (s : Size) where
   written-made a [] b small h m = m
   written-made a (x ∷ bytes) b small h m =
       let w = wordOf x false true in
-      written-made (nextOf s a) bytes (stored a w b) (λ i l. small (suc i) (omega arith)) (below s (a + 1))
+      written-made (aheadOf s a 1) bytes (stored a w b) (λ i l. small (suc i) (omega arith)) (below s (wrapOf s a + 1))
       (stored-made a w b h (proper-stored x false true (small 0 (omega arith))) m)
 
   marked-made : (on : Bool) (a : ℕ) (b : Buffer) → a < sizeOf s → BufferMade n s b → BufferMade n s (markedAt on a b)

@@ -15,7 +15,7 @@ use Rattle.unit_motion.specs.declared.Motion.the-variants.{Still, To, Codes}
 use Rattle.unit_drawing.specs.Drawing.{Stroke, stroke, characterAt, cursorAt, traceStrokes, hasCursor, codeStrokes, codesStrokes, strokesOf, itemAddress, falls, left, hitIn}
 use Rattle.unit_drawing.specs.declared.Hit.{Hit}
 use Rattle.unit_drawing.specs.declared.Hit.the-variants.{Missed, At}
-use Rattle.theorem_roundtrips.proofs.Buffers.{either-way}
+use Rattle.ground_words.proofs.Laws.{either-way}
 use Rattle.theorem_wellmade.specs.WellMade.{BeamMade}
 use Rattle.theorem_wellmade.proofs.Beams.{MotionMade, after-code-made}
 

@@ -4,9 +4,9 @@ use mathlib.Core.Bool.{Bool}
 use mathlib.Core.List.{List}
 use Rattle.ground_setup.specs.Setup.{sizeOf}
 use Rattle.ground_setup.specs.declared.Size.{Size}
-use Rattle.unit_head.specs.Head.{DisplayUnit, unit, freshUnit, switchedHead}
+use Rattle.unit_head.specs.Head.{DisplayUnit, freshUnit, switchedUnit}
 use Rattle.unit_loading.specs.Loading.{unitLoad}
-use Rattle.unit_commands.specs.Commands.{unitAfter, unitCommand}
+use Rattle.unit_commands.specs.Commands.{unitCommand}
 use Rattle.unit_run.specs.Run.{unitRun}
 use Rattle.typing_keys.specs.Keys.{unitKey}
 use Rattle.theorem_roundtrips.specs.RoundTrips.{Bytes}
@@ -26,7 +26,7 @@ LoadWell = (n : ℕ) → Houses n → (u : DisplayUnit) → WellMade n u → (si
 
 -- the switch, opened or closed
 abbrev pub SwitchWell : Type 0
-SwitchWell = (n : ℕ) (u : DisplayUnit) → WellMade n u → (closed : Bool) → WellMade n (unit (u .words) (switchedHead (u .head) closed))
+SwitchWell = (n : ℕ) (u : DisplayUnit) → WellMade n u → (closed : Bool) → WellMade n (switchedUnit u closed)
 
 -- a command, of any code, with any bytes and any room
 abbrev pub CommandWell : Type 0
@@ -35,11 +35,11 @@ CommandWell =
     → WellMade n u
     → (code : ℕ) (bytes room : List ℕ)
     → Bytes bytes
-    → WellMade n (unitAfter (unitCommand u code bytes room))
+    → WellMade n (unitCommand u code bytes room .unit)
 
 -- a run, with any sights and any room for its list
 abbrev pub RunWell : Type 0
-RunWell = (n : ℕ) (u : DisplayUnit) → WellMade n u → (sights out : List ℕ) → WellMade n (unit (u .words) (unitRun u sights out .head))
+RunWell = (n : ℕ) (u : DisplayUnit) → WellMade n u → (sights out : List ℕ) → WellMade n (unitRun u sights out .unit)
 
 -- a key, of any number
 abbrev pub KeyWell : Type 0

@@ -4,7 +4,11 @@ use mathlib.Core.Bool.{Bool}
 use mathlib.Core.List.{List, [], _∷_}
 use Rattle.ground_setup.specs.declared.Size.{Size}
 use Rattle.device_2250.specs.declared.Device.{Device}
-use Rattle.device_2250.specs.Device.{unitOf, freshOf, switchedOf, loadOf, commandOf, runOf, keyOf}
+use Rattle.unit_loading.specs.Loading.{unitLoad}
+use Rattle.unit_commands.specs.Commands.{unitCommand}
+use Rattle.unit_run.specs.Run.{unitRun}
+use Rattle.typing_keys.specs.Keys.{unitKey}
+use Rattle.device_2250.specs.Device.{unitOf, deviceOf, freshOf, switchedOf}
 use Rattle.theorem_roundtrips.specs.RoundTrips.{Bytes}
 use Rattle.theorem_wellmade.specs.WellMade.{WellMade}
 
@@ -23,12 +27,12 @@ pub data Call : Type 0 where
 
 -- the device after it
 abbrev pub afterCall : Device → Call → Device
-afterCall d (Call.load size dump) = loadOf d size dump .device
+afterCall d (Call.load size dump) = deviceOf (unitLoad (unitOf d) size dump .unit)
 afterCall d (Call.switch closed) = switchedOf d closed
 afterCall d Call.halt = d
-afterCall d (Call.command code bytes room) = commandOf d code bytes room .answered .device
-afterCall d (Call.run sights out) = runOf d sights out .device
-afterCall d (Call.key number) = keyOf d number .device
+afterCall d (Call.command code bytes room) = deviceOf (unitCommand (unitOf d) code bytes room .unit)
+afterCall d (Call.run sights out) = deviceOf (unitRun (unitOf d) sights out .unit)
+afterCall d (Call.key number) = deviceOf (unitKey (unitOf d) number .unit)
 
 -- what is sent with a command are bytes
 abbrev pub SentBytes : Call → Type 0

@@ -9,7 +9,7 @@ use Rattle.ground_orders.specs.declared.Mode.{Mode}
 use Rattle.ground_look.specs.declared.Look.{Look}
 use Rattle.ground_look.specs.declared.Look.the-variants as look
 use Rattle.unit_head.specs.declared.State.{State}
-use Rattle.unit_step.specs.Step.{lookAt, at, advanceOf}
+use Rattle.unit_step.specs.Step.{lookAt, stateAt, advanceOf}
 use Rattle.unit_step.specs.declared.Stepped.{Stepped}
 use Rattle.unit_step.specs.declared.Stepped.the-variants as stepped
 use Rattle.typing_signs.specs.Signs.{codeAt, evenOf, orderAt}
@@ -72,4 +72,4 @@ stepsIn s = sizeOf s / 2 * 7 * 48
 
 -- where jump takes a cursor at A: from its place, in its field's mode
 unfoldable pub jumpOf : List ℕ → State → ℕ → Mode → Spot
-jumpOf words s a m = jumpFrom words (stepsIn (s .setup .size)) (at s (evenOf (s .setup .size) a) m)
+jumpOf words s a m = jumpFrom words (stepsIn (s .setup .size)) (stateAt s (evenOf (s .setup .size) a) m)

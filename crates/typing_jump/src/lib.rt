@@ -16,7 +16,7 @@ use unit_step as step;
 use unit_step::Stepped;
 ghost use mathlib.Core.Path.{_≡_};
 ghost use mathlib.Core.Bool.{not, _&&_};
-ghost use Rattle.unit_step.specs.Step.{at};
+ghost use Rattle.unit_step.specs.Step.{stateAt};
 ghost use Rattle.typing_signs.specs.Signs.{codeAt, orderAt};
 ghost use Rattle.typing_fields.specs.Fields.{codeField};
 ghost use Rattle.typing_jump.specs.Jump.{openIn, landingBy, steppedBy, hopBy, hopOf, jumpFrom, stepsIn, jumpOf};
@@ -144,7 +144,7 @@ fn steps_in(size: Size) -> usize
 
 // The state at the cursor's place, in its field's mode.
 fn start_at(state: State, address: usize, mode: Mode) -> State
-    ensures { λ r. ⌜ r ≡ at state address mode ⌝ }
+    ensures { λ r. ⌜ r ≡ stateAt state address mode ⌝ }
 {
     let setup = state.setup;
     let beam = state.beam;

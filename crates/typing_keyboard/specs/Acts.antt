@@ -8,7 +8,8 @@ use Rattle.ground_refusals.specs.declared.Refusal.the-variants.{UnknownKey}
 use Rattle.ground_orders.specs.declared.Mode.{Mode}
 use Rattle.unit_head.specs.declared.State.{State}
 use Rattle.typing_signs.specs.Signs.{lineAt}
-use Rattle.typing_seek.specs.Seek.{forwardOf, backwardOf}
+use Rattle.typing_moves.specs.Moves.{goesTo}
+use Rattle.typing_moves.specs.declared.Direction.the-variants.{Forward, Backward}
 use Rattle.typing_seek.specs.declared.Spot.{Spot}
 use Rattle.typing_seek.specs.declared.Spot.the-variants.{At, Nowhere}
 use Rattle.typing_fields.specs.Fields.{fieldOf}
@@ -58,14 +59,14 @@ storeBy code at (At to) = Store code to
 -- a character key at a location: on a new line nothing is stored and the cursor goes on (second half of Figure 4-13)
 unfoldable pub characterOf : List ℕ → State → ℕ → ℕ → Act
 characterOf words s at code =
-    cond (lineAt words (s .setup .size) at) (moveBy (forwardOf words (s .setup .size) at)) (storeBy code at (forwardOf words (s .setup .size) at))
+    cond (lineAt words (s .setup .size) at) (moveBy (goesTo words (s .setup .size) Forward at)) (storeBy code at (goesTo words (s .setup .size) Forward at))
 
 -- each key in a field of characters: "Cursor operation in a protected area is the same as in an unprotected area except that keyboard
 -- data cannot be entered" (000 p.36)
 abbrev pub pressIn : List ℕ → State → ℕ → Mode → Bool → Press → Act
 pressIn words s at m shut (press.Character code) = cond shut Stay (characterOf words s at code)
-pressIn words s at m shut press.Advance = moveBy (forwardOf words (s .setup .size) at)
-pressIn words s at m shut press.Backspace = moveBy (backwardOf words (s .setup .size) at)
+pressIn words s at m shut press.Advance = moveBy (goesTo words (s .setup .size) Forward at)
+pressIn words s at m shut press.Backspace = moveBy (goesTo words (s .setup .size) Backward at)
 pressIn words s at m shut press.Jump = moveBy (jumpOf words s at m)
 
 -- in any other field the cursor "cannot be controlled by keyboard action" (000 p.21, note 2)

@@ -6,7 +6,8 @@ use ground_refusals::Refusal;
 use typing_fields as fields;
 use typing_fields::Field;
 use typing_jump as jump;
-use typing_seek as seek;
+use typing_moves as moves;
+use typing_moves::Direction;
 use typing_seek::Spot;
 use typing_signs as signs;
 use unit_head::State;
@@ -135,7 +136,7 @@ fn character(words: &[u16], state: State, at: usize, code: u8) -> Act
 {
     let setup = state.setup;
     let size = setup.size;
-    let spot = seek::forward(words, size, at);
+    let spot = moves::go(words, size, Direction::Forward, at);
     if signs::line_at(words, size, at) {
         move_by(spot)
     } else {
@@ -157,8 +158,8 @@ fn press_in(words: &[u16], state: State, at: usize, mode: Mode, shut: bool, pres
                 character(words, state, at, code)
             }
         }
-        Press::Advance => move_by(seek::forward(words, size, at)),
-        Press::Backspace => move_by(seek::backward(words, size, at)),
+        Press::Advance => move_by(moves::go(words, size, Direction::Forward, at)),
+        Press::Backspace => move_by(moves::go(words, size, Direction::Backward, at)),
         Press::Jump => move_by(jump::jump_to(words, state, at, mode)),
     }
 }

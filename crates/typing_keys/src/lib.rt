@@ -15,9 +15,11 @@ use unit_cursor as cursor;
 use unit_cursor::Cursor;
 use unit_head::Head;
 ghost use mathlib.Core.Path.{_≡_};
+ghost use mathlib.Core.List.{List};
+ghost use Prim.Native.Nat.{ℕ};
 ghost use Rattle.unit_cursor.specs.Cursor.{buffer};
-ghost use Rattle.unit_head.specs.Head.{unit};
-ghost use Rattle.typing_keys.specs.Keys.{cursorMoved, characterStored, heardWith, keyEnded, doneBy, pressedBy, soughtIn, unitKey};
+ghost use Rattle.unit_head.specs.Head.{unit, withCursor};
+ghost use Rattle.typing_keys.specs.Keys.{cursorMoved, characterStored, KeyValues, keyEnd, keyEnded, doneBy, pressedBy, soughtIn, unitKey};
 
 // What a key answers.
 pub enum KeyReply {
@@ -61,7 +63,7 @@ fn store_character(
 
 // The head with its cursor, whether a character was stored and where the cursor is.
 fn answer(mut head: Head, cursor: Cursor, stored: bool, to: usize) -> HeadKeyed
-    ensures { λ r. ⌜ r ≡ heardWith head cursor stored to ⌝ }
+    ensures { λ r. ⌜ ((words : List ℕ) → keyEnded words r ≡ keyEnd (unit words (withCursor head cursor)) (KeyValues.heard stored to)) ⌝ }
 {
     head.cursor = cursor;
     HeadKeyed {

@@ -4,26 +4,26 @@ use native.Mathlib.Omega.{arith}
 use mathlib.Core.Path.{_≡_, refl}
 use mathlib.Core.Bool.{cond}
 use mathlib.Core.List.{List}
+use Rattle.ground_setup.specs.Setup.{wrapOf}
 use Rattle.ground_setup.specs.declared.Size.{Size}
 use Rattle.unit_cursor.specs.Cursor.{Buffer, cursorHere}
-use Rattle.typing_seek.specs.declared.Sought.{Sought}
+use Rattle.typing_signs.specs.Signs.{backOf, orderAt}
 use Rattle.typing_seek.specs.declared.Spot.the-variants.{At, Nowhere}
-use Rattle.typing_seek.specs.declared.Seeking.{Seeking}
-use Rattle.typing_seek.specs.Seek.{cursorFrom, seekingOf, seekBy, seekFrom}
+use Rattle.typing_seek.specs.Seek.{cursorFrom, orderFrom}
 
-module _ (words : List ℕ) (s : Size) (k : Sought) where
-  -- the search from A is what its turn says, and then the search of one address less
-  pub seek-one : (n a : ℕ) → 0 < n → (t : Seeking) → t ≡ seekingOf words s k a → seekFrom words s k n a ≡ seekBy (λ b. seekFrom words s k (n - 1) b) t
-  unfolding seekFrom
-  seek-one zero a h t e = absurd (omega arith)
-  seek-one (suc n) a h t e =
+module _ (words : List ℕ) (s : Size) where
+  -- an order is looked for at A, and then from two before it on
+  pub order-one : (n a : ℕ) → 0 < n → orderFrom words s n a ≡ cond (orderAt words s a) (At (wrapOf s a)) (orderFrom words s (n - 1) (backOf s a 2))
+  unfolding orderFrom
+  order-one zero a h = absurd (omega arith)
+  order-one (suc n) a h =
       let z : suc n - 1 ≡ n = omega arith in
-      rw (e, z)
+      rw z
 
-  pub seek-none : (n a : ℕ) → n ≤ 0 → seekFrom words s k n a ≡ Nowhere
-  unfolding seekFrom
-  seek-none zero a h = refl
-  seek-none (suc n) a h = absurd (omega arith)
+  pub order-none : (n a : ℕ) → n ≤ 0 → orderFrom words s n a ≡ Nowhere
+  unfolding orderFrom
+  order-none zero a h = refl
+  order-none (suc n) a h = absurd (omega arith)
 
 module _ (b : Buffer) where
   -- the cursor is looked for at A, and then from A+1 on

@@ -1,11 +1,11 @@
 -- What stands at a location, as the keyboard sees it (C-13): an order and its code, a new line.
-use Prim.Native.Nat.{ℕ, _-_, _%_}
+use Prim.Native.Nat.{ℕ, _+_, _-_, _%_}
 use mathlib.Core.Bool.{Bool, _&&_}
 use mathlib.Core.List.{List}
 use lib.Dec.{eqb}
 use lib.ListN.{getD}
 use Rattle.ground_location.specs.Location.{dataOf}
-use Rattle.ground_setup.specs.Setup.{wrapOf, aheadOf}
+use Rattle.ground_setup.specs.Setup.{sizeOf, wrapOf, aheadOf}
 use Rattle.ground_setup.specs.declared.Size.{Size}
 
 -- the word and the data at an address: "Addresses go round at the buffer's size."
@@ -18,6 +18,10 @@ byteAt words s a = dataOf (wordAt words s a)
 -- the code of an order at A
 unfoldable pub codeAt : List ℕ → Size → ℕ → ℕ
 codeAt words s a = byteAt words s (aheadOf s a 1)
+
+-- the address k before A, round the buffer
+abbrev pub backOf : Size → ℕ → ℕ → ℕ
+backOf s a k = wrapOf s (wrapOf s a + (sizeOf s - k))
 
 -- the even address of a location's pair
 abbrev pub evenOf : Size → ℕ → ℕ

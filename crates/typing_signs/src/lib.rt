@@ -1,4 +1,4 @@
-// What stands at a location, as the keyboard sees it: an order and its code, a new line.
+// What stands at a location, as the keyboard sees it: an order and its code, a new line; and the addresses around it.
 //
 // The contracts cite `specs/Signs.antt`.
 use ground_location as location;
@@ -6,7 +6,7 @@ use ground_setup as setup;
 use ground_setup::Size;
 use ground_words as words;
 ghost use mathlib.Core.Path.{_≡_};
-ghost use Rattle.typing_signs.specs.Signs.{wordAt, byteAt, codeAt, evenOf, orderAt, lineAt};
+ghost use Rattle.typing_signs.specs.Signs.{wordAt, byteAt, codeAt, backOf, evenOf, orderAt, lineAt};
 
 // The word at an address.
 fn word_at(words: &[u16], size: Size, at: usize) -> u16
@@ -27,6 +27,15 @@ pub fn code_at(words: &[u16], size: Size, at: usize) -> u8
     ensures { λ r. ⌜ r ≡ codeAt (now (words .entry)) size at ⌝ }
 {
     byte_at(words, size, setup::ahead(size, at, 1))
+}
+
+// The address k before another, round the buffer.
+pub fn back(size: Size, at: usize, k: u8) -> usize
+    ensures { λ r. ⌜ r ≡ backOf size at k ⌝ }
+{
+    let here = setup::wrap(size, at);
+    let round = setup::size_of(size) - k as usize;
+    setup::wrap(size, here + round)
 }
 
 // The even address of a location's pair.

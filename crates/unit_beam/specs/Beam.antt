@@ -1,7 +1,6 @@
 -- The beam (01, "Beam"): absolute coordinates, increments, spacings, new line.
 use Prim.Native.Nat.{ℕ, _+_, _-_, _*_, _/_, _%_}
 use mathlib.Core.Bool.{Bool, cond}
-use mathlib.Core.List.{List, [], _∷_}
 use lib.Dec.{eqb, leb, ltb}
 use lib.IntN.{ℤ, pos, negsuc, subℕ, _+ℤ_}
 use Rattle.unit_beam.specs.declared.Beam.{Beam}
@@ -80,7 +79,3 @@ highByte c = tenBits c / 64
 
 abbrev pub lowByte : ℕ → ℕ
 lowByte c = tenBits c % 64 * 4
-
--- the four bytes that Read XY gives
-abbrev pub xyBytes : Beam → List ℕ
-xyBytes p = highByte (p .x) ∷ lowByte (p .x) ∷ highByte (p .y) ∷ lowByte (p .y) ∷ []

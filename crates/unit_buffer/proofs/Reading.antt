@@ -8,9 +8,10 @@ use mathlib.Core.Bool.{Bool, true, false}
 use mathlib.Core.List.{List, _++_, append-assoc, append-nil}
 use lib.ListN.{length, take, drop, getD, set, drop-of-length-le}
 use lib.Seq.{take-all, drop-cons, take-suc-set, set-split, drop-set-lt}
+use Rattle.ground_setup.specs.Setup.{aheadOf}
 use Rattle.ground_setup.specs.declared.Size.{Size}
 use Rattle.unit_cursor.specs.Cursor.{Buffer}
-use Rattle.unit_buffer.specs.Buffer.{nextOf, foundAt, givenOf, readsOn, endedAt, givenFrom, readFrom}
+use Rattle.unit_buffer.specs.Buffer.{foundAt, givenOf, readsOn, endedAt, givenFrom, readFrom}
 
 module _ (b : Buffer) (s : Size) (seek : Bool) (a : ℕ) (room : List ℕ) (i : ℕ) where
   -- the room with the byte of this turn
@@ -19,7 +20,7 @@ module _ (b : Buffer) (s : Size) (seek : Bool) (a : ℕ) (room : List ℕ) (i : 
 
   module _ (h : i < length room) where
     pub given-on : readsOn (foundAt b seek a) (getD (b .words) a 0) ≡ true
-        → take i room ++ givenFrom b s seek a (drop i room) ≡ take (i + 1) next-room ++ givenFrom b s seek (nextOf s a) (drop (i + 1) next-room)
+        → take i room ++ givenFrom b s seek a (drop i room) ≡ take (i + 1) next-room ++ givenFrom b s seek (aheadOf s a 1) (drop (i + 1) next-room)
     unfolding givenFrom
     given-on e =
         rw (add-one i, take-suc-set room i (givenOf (foundAt b seek a) (getD (b .words) a 0)), drop-set-lt (suc i) room i (givenOf (foundAt b seek a) (getD (b .words) a 0)) (le-refl (suc i)), drop-cons room i 0)
@@ -30,12 +31,12 @@ module _ (b : Buffer) (s : Size) (seek : Bool) (a : ℕ) (room : List ℕ) (i : 
     given-last e = rw (drop-cons room i 0) (simp e (sym (set-split room i (givenOf (foundAt b seek a) (getD (b .words) a 0)) h)))
 
     pub read-on : readsOn (foundAt b seek a) (getD (b .words) a 0) ≡ true
-        → readFrom b s seek a i (drop i room) ≡ readFrom b s seek (nextOf s a) (i + 1) (drop (i + 1) next-room)
+        → readFrom b s seek a i (drop i room) ≡ readFrom b s seek (aheadOf s a 1) (i + 1) (drop (i + 1) next-room)
     unfolding readFrom
     read-on e =
         rw (drop-cons room i 0)
         (simp e
-        (ap (λ (l : List ℕ). readFrom b s seek (nextOf s a) (i + 1) l)
+        (ap (λ (l : List ℕ). readFrom b s seek (aheadOf s a 1) (i + 1) l)
         (ap (λ (k : ℕ). drop k room) (sym (add-one i)) ∙ sym (drop-set-lt (i + 1) room i (givenOf (foundAt b seek a) (getD (b .words) a 0)) (omega arith)))))
 
     pub read-last : readsOn (foundAt b seek a) (getD (b .words) a 0) ≡ false → readFrom b s seek a i (drop i room) ≡ endedAt s (i + 1) a (getD (b .words) a 0)

@@ -7,15 +7,16 @@ use mathlib.Core.List.{List}
 use lib.ListN.{length, drop, getD, length-set, drop-of-length-le}
 use lib.Seq.{drop-cons}
 use Rattle.ground_location.specs.Location.{wordOf}
+use Rattle.ground_setup.specs.Setup.{aheadOf}
 use Rattle.ground_setup.specs.declared.Size.{Size}
 use Rattle.unit_cursor.specs.Cursor.{Buffer, stored}
-use Rattle.unit_buffer.specs.Buffer.{nextOf, wrote, writtenFrom}
+use Rattle.unit_buffer.specs.Buffer.{wrote, writtenFrom}
 
 module _ (s : Size) (a : ℕ) (bytes : List ℕ) (i : ℕ) (b : Buffer) where
   pub write-one : i < length bytes → (after : Buffer) → after ≡ stored a (wordOf (getD bytes i 0) false true) b
-      → writtenFrom s a (drop i bytes) b ≡ writtenFrom s (nextOf s a) (drop (i + 1) bytes) after
+      → writtenFrom s a (drop i bytes) b ≡ writtenFrom s (aheadOf s a 1) (drop (i + 1) bytes) after
   unfolding writtenFrom
-  write-one h after e = rw (add-one i, drop-cons bytes i 0) (ap (writtenFrom s (nextOf s a) (drop (suc i) bytes)) (sym e))
+  write-one h after e = rw (add-one i, drop-cons bytes i 0) (ap (writtenFrom s (aheadOf s a 1) (drop (suc i) bytes)) (sym e))
 
   -- the store of this byte leaves as many words as there were
   pub write-long : (after : Buffer) → after ≡ stored a (wordOf (getD bytes i 0) false true) b → length (after .words) ≡ length (b .words)

@@ -8,7 +8,6 @@ use ground_words as words;
 use unit_cursor as cursor;
 use unit_cursor::Cursor;
 ghost use mathlib.Core.Path.{_≡_};
-ghost use Rattle.ground_setup.specs.Setup.{Inside};
 ghost use Rattle.unit_cursor.specs.Cursor.{buffer};
 ghost use Rattle.unit_buffer.specs.Buffer.{wrote, bytesWritten, foundAt, givenOf, readsOn, endedAt, roomRead, readOf};
 
@@ -34,7 +33,7 @@ pub fn write_in(words: &mut [u16], cursor: Cursor, size: Size, at: usize, bytes:
     let mut i = 0;
     while i < bytes.len() {
         after = cursor::store(words, after, a, location::word_of(bytes[i], false, true));
-        a = setup::wrap(size, a + 1);
+        a = setup::ahead(size, a, 1);
         i += 1;
     }
     Written {
@@ -70,7 +69,6 @@ fn goes_on(found: bool, word: u16) -> bool
 
 // A read that ends at a word.
 fn ended(size: Size, count: usize, a: usize, word: u16) -> Read
-    requires { ⌜ Inside size a ⌝ }
     ensures { λ r. ⌜ r ≡ endedAt size count a word ⌝ }
 {
     if location::good(word) {
@@ -82,7 +80,7 @@ fn ended(size: Size, count: usize, a: usize, word: u16) -> Read
     } else {
         Read {
             count: count,
-            address: setup::wrap(size, a + 1),
+            address: setup::ahead(size, a, 1),
             good: false,
         }
     }
@@ -109,7 +107,7 @@ pub fn read_out(
         if !goes_on(here, word) {
             return ended(size, i, a, word);
         }
-        a = setup::wrap(size, a + 1);
+        a = setup::ahead(size, a, 1);
     }
     Read {
         count: i,

@@ -1,30 +1,48 @@
-// The codes of commands: what is asked of the bytes sent with each, and which are done while the unit runs.
+// The codes of commands: which command a code is, what is sent with it, and whether it is done while the buffer runs.
 //
 // The contracts cite `specs/Codes.antt`.
 use ground_refusals::Refusal;
 use ground_setup as setup;
 use ground_setup::Size;
 ghost use mathlib.Core.Path.{_≡_};
-ghost use mathlib.Core.Bool.{_&&_};
-ghost use Prim.Native.Nat.{_+_, _*_, _%_, _<_};
-ghost use lib.Dec.{eqb};
+ghost use Prim.Native.Nat.{_+_, _*_, _<_};
 ghost use lib.ListN.{getD};
-ghost use Rattle.unit_codes.specs.Codes.{classOf, addressIn, addressFit, countFit, sentBy, allowed};
+ghost use Rattle.unit_codes.specs.Codes.{commandRow, rowOf, addressIn, nearFit, startFit, countFit, sentBy};
 
-// The commands by what is asked.
-pub enum Class {
-    // Test I/O, No Operation, Sense: sense data stay.
-    Kept,
-    // Write Buffer.
-    Write,
-    // The reads and the cursor commands, which want a stopped unit.
-    Stopped,
-    // Set Buffer Address, and Stop or Start.
-    Address,
-    // Alarm.
+// The twelve commands, and every code that is none.
+pub enum Command {
+    TestIo,
+    WriteBuffer,
+    ReadBuffer,
+    NoOperation,
+    Sense,
+    ReadCursor,
+    SetAndStop,
     Alarm,
-    // No command.
+    InsertCursor,
+    ReadXy,
+    RemoveCursor,
+    SetAndStart,
     Invalid,
+}
+
+// What is sent with a command.
+pub enum Takes {
+    // No byte.
+    Nothing,
+    // Any number of bytes.
+    Bytes,
+    // An address of two bytes.
+    Address,
+    // An address of two bytes to start at.
+    Start,
+}
+
+// A command, what is sent with it, and whether it is done while the buffer runs.
+pub struct CommandRow {
+    pub command: Command,
+    pub takes: Takes,
+    pub running: bool,
 }
 
 // Whether what was sent with a command fits it.
@@ -33,31 +51,36 @@ pub enum Sent {
     Refused(Refusal),
 }
 
-// The class of a command's code.
-pub fn class_of(code: u8) -> Class
-    ensures { λ r. ⌜ r ≡ classOf code ⌝ }
+// A row.
+fn row(command: Command, takes: Takes, running: bool) -> CommandRow
+    ensures { λ r. ⌜ r ≡ commandRow command takes running ⌝ }
 {
-    match code {
-        0x00 | 0x03..=0x04 => Class::Kept,
-        0x01 => Class::Write,
-        0x02 | 0x06 | 0x0F | 0x12 | 0x1F => Class::Stopped,
-        0x07 | 0x27 => Class::Address,
-        0x0B => Class::Alarm,
-        _ => Class::Invalid,
+    CommandRow {
+        command: command,
+        takes: takes,
+        running: running,
     }
 }
 
-// Whether a command of the class is done, by whether the unit runs.
-pub fn is_allowed(class: Class, running: bool) -> bool
-    ensures { λ r. ⌜ r ≡ allowed class running ⌝ }
+// The row of a code and its modifiers.
+pub fn row_of(code: u8) -> CommandRow
+    ensures { λ r. ⌜ r ≡ rowOf code ⌝ }
 {
-    match class {
-        Class::Kept => true,
-        Class::Write => !running,
-        Class::Stopped => !running,
-        Class::Address => true,
-        Class::Alarm => true,
-        Class::Invalid => false,
+    match code {
+        0x00 => row(Command::TestIo, Takes::Nothing, true),
+        0x01 => row(Command::WriteBuffer, Takes::Bytes, false),
+        0x02 => row(Command::ReadBuffer, Takes::Nothing, false),
+        0x03 => row(Command::NoOperation, Takes::Nothing, true),
+        0x04 => row(Command::Sense, Takes::Nothing, true),
+        0x06 => row(Command::ReadCursor, Takes::Nothing, false),
+        0x07 => row(Command::SetAndStop, Takes::Address, true),
+        0x0B => row(Command::Alarm, Takes::Nothing, true),
+        0x0F => row(Command::InsertCursor, Takes::Nothing, false),
+        0x12 => row(Command::ReadXy, Takes::Nothing, false),
+        0x1F => row(Command::RemoveCursor, Takes::Nothing, false),
+        0x27 => row(Command::SetAndStart, Takes::Start, true),
+        0x05 | 0x08..=0x0A | 0x0C..=0x0E | 0x10..=0x11 | 0x13..=0x1E | 0x20..=0x26 | 0x28..=0xFF =>
+            { row(Command::Invalid, Takes::Bytes, true) }
     }
 }
 
@@ -82,28 +105,25 @@ pub fn address_in(bytes: &[u8]) -> usize
     address_of(sent_at(bytes, 0), sent_at(bytes, 1))
 }
 
-// Whether an address is an odd one to start at.
-fn odd_start(code: u8, address: usize) -> bool
-    ensures { λ r. ⌜ r ≡ eqb code 0x27 && eqb (address % 2) 1 ⌝ }
+// Whether an address is one of the buffer.
+fn near_fit(size: Size, address: usize) -> Sent
+    ensures { λ r. ⌜ r ≡ nearFit size address ⌝ }
 {
-    if code == 0x27 {
-        address % 2 == 1
-    } else {
-        false
-    }
-}
-
-// Whether an address fits the command and the buffer.
-fn address_fit(size: Size, code: u8, address: usize) -> Sent
-    ensures { λ r. ⌜ r ≡ addressFit size code address ⌝ }
-{
-    if odd_start(code, address) {
-        return Sent::Refused(Refusal::OddStart);
-    }
     if address < setup::size_of(size) {
         Sent::Fit
     } else {
         Sent::Refused(Refusal::FarStart)
+    }
+}
+
+// Whether an address is one to start at.
+fn start_fit(size: Size, address: usize) -> Sent
+    ensures { λ r. ⌜ r ≡ startFit size address ⌝ }
+{
+    if address % 2 == 1 {
+        Sent::Refused(Refusal::OddStart)
+    } else {
+        near_fit(size, address)
     }
 }
 
@@ -118,16 +138,14 @@ fn count_fit(n: usize, bytes: &[u8], fit: Sent) -> Sent
     }
 }
 
-// Whether the bytes sent fit a command.
-pub fn sent_by(size: Size, class: Class, code: u8, bytes: &[u8]) -> Sent
-    ensures { λ r. ⌜ r ≡ sentBy size class code (now (bytes .entry)) ⌝ }
+// Whether the bytes sent are those that a command takes.
+pub fn sent_by(size: Size, takes: Takes, bytes: &[u8]) -> Sent
+    ensures { λ r. ⌜ r ≡ sentBy size takes (now (bytes .entry)) ⌝ }
 {
-    match class {
-        Class::Kept => count_fit(0, bytes, Sent::Fit),
-        Class::Write => Sent::Fit,
-        Class::Stopped => count_fit(0, bytes, Sent::Fit),
-        Class::Address => count_fit(2, bytes, address_fit(size, code, address_in(bytes))),
-        Class::Alarm => count_fit(0, bytes, Sent::Fit),
-        Class::Invalid => Sent::Fit,
+    match takes {
+        Takes::Nothing => count_fit(0, bytes, Sent::Fit),
+        Takes::Bytes => Sent::Fit,
+        Takes::Address => count_fit(2, bytes, near_fit(size, address_in(bytes))),
+        Takes::Start => count_fit(2, bytes, start_fit(size, address_in(bytes))),
     }
 }

@@ -1,7 +1,7 @@
 // The cursor of a buffer: whether it is here, set here, cleared here. It is a bit of each location's word, and the number of set bits is
 // kept with the words by every store. The rest of the unit knows the cursor by these calls alone.
 //
-// The contracts cite `specs/Cursor.antt`; `specs/Laws.antt` has the law of one store.
+// The contracts cite `specs/Cursor.antt`; `proofs/Laws.antt` has the law of one store.
 use ground_location as location;
 use ground_setup as setup;
 use ground_setup::Size;

@@ -23,11 +23,11 @@ use Rattle.unit_drawing.specs.Drawing.{showsCursor, hasCursor, codeStrok
 abbrev items : Look → Mode → Beam → Bool → Bool → ℕ → List Item
 items l m beam c0 c1 sight = upto sight (strokesOf (motionOf l m beam) beam c0 c1 K4 10)
 
-abbrev after : Look → Mode → Beam → Beam
-after l m beam = beamAfter (motionOf l m beam) beam
+abbrev leaves : Look → Mode → Beam → Beam
+leaves l m beam = beamAfter (motionOf l m beam) beam
 
-abbrev struck : Look → Mode → Beam → ℕ → Hit
-struck l m beam sight = hitIn sight (strokesOf (motionOf l m beam) beam false false K4 10)
+abbrev sighted : Look → Mode → Beam → ℕ → Hit
+sighted l m beam sight = hitIn sight (strokesOf (motionOf l m beam) beam false false K4 10)
 
 -- X 0200, Y 0400, unblanked and blanked
 abbrev shown : Look
@@ -42,7 +42,7 @@ codes a b = look.Two a b 12
 pub record Worked : Type 0 where
   pub point : items shown mode.Point (beamAt 3 5) false false 0 ≡ Point 128 256 10 ∷ []
   pub point-blanked : items hidden mode.Point (beamAt 3 5) false false 0 ≡ []
-  pub blanked-moves : after hidden mode.Point (beamAt 3 5) ≡ beamAt 128 256
+  pub blanked-moves : leaves hidden mode.Point (beamAt 3 5) ≡ beamAt 128 256
   pub vector : items shown mode.Vector (beamAt 3 5) false false 0 ≡ Vector 3 5 128 256 10 ∷ []
   pub vector-blanked : items hidden mode.Vector (beamAt 3 5) false false 0 ≡ []
   pub no-length : items shown mode.Vector (beamAt 128 256) false false 0 ≡ Vector 128 256 128 256 10 ∷ []
@@ -55,14 +55,14 @@ pub record Worked : Type 0 where
   pub cursor-on-null : items (codes 0x00 0xC2) mode.Basic (beamAt 0 1023) true false 0 ≡ Character size.Basic 0 1023 0xC2 11 ∷ []
   pub cursor-on-new-line : items (codes 0x15 0xC2) mode.Basic (beamAt 700 1023) true false 0 ≡ Character size.Basic 0 1003 0xC2 11 ∷ []
   pub odd-2A : items (codes 0xC1 0x2A) mode.Basic (beamAt 0 1023) false true 0 ≡ Character size.Basic 0 1023 0xC1 10 ∷ Cursor size.Basic 14 1023 0x2A 11 ∷ []
-  pub odd-2A-spaces : after (codes 0xC1 0x2A) mode.Basic (beamAt 0 1023) ≡ beamAt 28 1023
+  pub odd-2A-spaces : leaves (codes 0xC1 0x2A) mode.Basic (beamAt 0 1023) ≡ beamAt 28 1023
   pub first-seen : items (codes 0xC1 0xC2) mode.Basic (beamAt 0 1023) true false 1 ≡ Character size.Basic 0 1023 0xC1 10 ∷ []
-  pub first-struck : struck (codes 0xC1 0xC2) mode.Basic (beamAt 1022 500) 1 ≡ At 10 (beamAt 0 480)
+  pub first-struck : sighted (codes 0xC1 0xC2) mode.Basic (beamAt 1022 500) 1 ≡ At 10 (beamAt 0 480)
   pub second-seen : items (codes 0xC1 0xC2) mode.Basic (beamAt 0 1023) true true 2 ≡ Character size.Basic 0 1023 0xC1 10 ∷ Cursor size.Basic 0 1023 0xC1 10 ∷ Character size.Basic 14 1023 0xC2 11 ∷ []
-  pub second-struck : struck (codes 0xC1 0xC2) mode.Basic (beamAt 0 1023) 2 ≡ At 11 (beamAt 28 1023)
-  pub first-is-second : struck (codes 0x40 0xC2) mode.Basic (beamAt 0 1023) 1 ≡ At 11 (beamAt 28 1023)
-  pub no-second : struck (codes 0x40 0xC2) mode.Basic (beamAt 0 1023) 2 ≡ Missed
-  pub vector-struck : struck shown mode.Vector (beamAt 3 5) 1 ≡ At 10 (beamAt 128 256)
+  pub second-struck : sighted (codes 0xC1 0xC2) mode.Basic (beamAt 0 1023) 2 ≡ At 11 (beamAt 28 1023)
+  pub first-is-second : sighted (codes 0x40 0xC2) mode.Basic (beamAt 0 1023) 1 ≡ At 11 (beamAt 28 1023)
+  pub no-second : sighted (codes 0x40 0xC2) mode.Basic (beamAt 0 1023) 2 ≡ Missed
+  pub vector-struck : sighted shown mode.Vector (beamAt 3 5) 1 ≡ At 10 (beamAt 128 256)
 
 pub worked : Worked
 unfolding placed blankedPlace increment exactSum summed stepped blankedStep lineBelow newLine afterCharacter draws afterCode twoOf fourOf motionOf beamAfter showsCursor hasCursor codeStrokes codesStrokes strokesOf upto hitIn

@@ -67,3 +67,6 @@ withCursor h k = record { state = h .state; status = h .status; sense = h .sense
 -- "Opening or closing the switch is a call; a repeat changes nothing."
 unfoldable pub switchedHead : Head → Bool → Head
 switchedHead h closed = withState h (withPen (h .state) (switched (h .state .pen) closed))
+
+abbrev pub switchedUnit : DisplayUnit → Bool → DisplayUnit
+switchedUnit u closed = unit (u .words) (switchedHead (u .head) closed)

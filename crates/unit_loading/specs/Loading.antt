@@ -10,13 +10,13 @@ use Rattle.ground_setup.specs.Setup.{sizeOf, sizedOf}
 use Rattle.ground_setup.specs.declared.Size.{Size}
 use Rattle.ground_setup.specs.declared.Sized.{Sized}
 use Rattle.ground_setup.specs.declared.Sized.the-variants as sized
+use Rattle.ground_refusals.specs.Refusals.{refusalNumber}
 use Rattle.ground_refusals.specs.declared.Refusal.{Refusal}
 use Rattle.ground_refusals.specs.declared.Refusal.the-variants.{UnusedBit, WrongCount}
 use Rattle.unit_cursor.specs.Cursor.{cursors, cursorsIn}
 use Rattle.unit_head.specs.Head.{DisplayUnit, unit, freshHead}
-use Rattle.unit_head.specs.declared.Head.{Head}
 use Rattle.unit_loading.specs.declared.LoadReply.{LoadReply}
-use Rattle.unit_loading.specs.declared.LoadReply.the-variants as answer
+use Rattle.unit_loading.specs.declared.LoadReply.the-variants as reply
 use Rattle.unit_loading.specs.declared.HeadLoaded.{HeadLoaded}
 
 -- no word of a dump has an unused bit set
@@ -33,27 +33,38 @@ dumpWords n dump = sets (replicate n freshWord) 0 dump
 abbrev pub freshLoaded : ℕ → Size → List ℕ → DisplayUnit
 freshLoaded n s dump = unit (dumpWords n dump) (freshHead s (cursors (cursorsIn (sizeOf s) (dumpWords n dump))))
 
+-- the answer in 01's numbers: loaded, or the number of the refusal
+pub data LoadValues : Type 0 where
+  loaded : LoadValues
+  refused : ℕ → LoadValues
+
+abbrev pub loadValues : LoadReply → LoadValues
+loadValues reply.Done = LoadValues.loaded
+loadValues (reply.Refused r) = LoadValues.refused (refusalNumber r)
+
 -- what loading leaves: the unit, and the answer
 pub record LoadEnd : Type 0 where
   pub unit : DisplayUnit
-  pub answer : LoadReply
+  pub answer : LoadValues
 
-abbrev pub loadEnd : DisplayUnit → LoadReply → LoadEnd
+abbrev pub loadEnd : DisplayUnit → LoadValues → LoadEnd
 loadEnd u a = record { unit = u; answer = a }
 
+-- the same of a call that gives the head beside its answer
 abbrev pub loadEnded : List ℕ → HeadLoaded → LoadEnd
-loadEnded words l = loadEnd (unit words (l .head)) (l .answer)
+loadEnded words l = loadEnd (unit words (l .head)) (loadValues (l .answer))
 
-abbrev pub refusedWith : Head → Refusal → HeadLoaded
-refusedWith h r = record { head = h; answer = answer.Refused r }
+-- "A refusal returns its number only and alters nothing."
+abbrev pub loadRefused : DisplayUnit → Refusal → LoadEnd
+loadRefused u r = loadEnd u (LoadValues.refused (refusalNumber r))
 
 -- "loading one gives a fresh device with these words, bad parity included"; refused "1, 10, 9 for dumps"
 abbrev pub loadedBy : DisplayUnit → List ℕ → Sized → LoadEnd
-loadedBy u dump (sized.Refused r) = loadEnded (u .words) (refusedWith (u .head) r)
+loadedBy u dump (sized.Refused r) = loadRefused u r
 loadedBy u dump (sized.Of s) =
     cond (eqb (length dump) (sizeOf s))
-    (cond (allProper dump) (loadEnd (freshLoaded (length (u .words)) s dump) answer.Done) (loadEnded (u .words) (refusedWith (u .head) UnusedBit)))
-    (loadEnded (u .words) (refusedWith (u .head) WrongCount))
+    (cond (allProper dump) (loadEnd (freshLoaded (length (u .words)) s dump) LoadValues.loaded) (loadRefused u UnusedBit))
+    (loadRefused u WrongCount)
 
 unfoldable pub unitLoad : DisplayUnit → ℕ → List ℕ → LoadEnd
 unitLoad u size dump = loadedBy u dump (sizedOf size)

@@ -10,12 +10,13 @@ use unit_cursor as cursor;
 use unit_head as head;
 use unit_head::Head;
 ghost use mathlib.Core.Path.{_≡_};
-ghost use Prim.Native.Nat.{min, _≤_};
+ghost use mathlib.Core.List.{List};
+ghost use Prim.Native.Nat.{ℕ, min, _≤_};
 ghost use lib.ListN.{length, replicate};
 ghost use lib.Seq.{sets};
 ghost use Rattle.ground_location.specs.Location.{freshWord};
 ghost use Rattle.unit_head.specs.Head.{unit};
-ghost use Rattle.unit_loading.specs.Loading.{allProper, refusedWith, loadEnded, freshLoaded, loadedBy, unitLoad};
+ghost use Rattle.unit_loading.specs.Loading.{allProper, loadRefused, loadEnded, freshLoaded, loadedBy, unitLoad};
 
 // How a call ended that answers no more.
 pub enum LoadReply {
@@ -84,7 +85,7 @@ fn load_words(words: &mut [u16], size: Size, dump: &[u16]) -> Head
 
 // The head as it was, with a refusal.
 fn refused(head: Head, refusal: Refusal) -> HeadLoaded
-    ensures { λ r. ⌜ r ≡ refusedWith head refusal ⌝ }
+    ensures { λ r. ⌜ ((words : List ℕ) → loadEnded words r ≡ loadRefused (unit words head) refusal) ⌝ }
 {
     HeadLoaded {
         head: head,

@@ -1,2 +1,1 @@
 pub mod Pen
-pub mod Laws

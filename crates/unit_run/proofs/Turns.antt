@@ -3,7 +3,7 @@
 use Prim.Native.Nat.{ℕ, _+_, _<_, _≤_, _/_}
 use native.Mathlib.Omega.{arith}
 use native.Mathlib.Numerals.{add-one}
-use mathlib.Core.Path.{_≡_, refl, sym, ap, _∙_}
+use mathlib.Core.Path.{_≡_, refl, sym, ap}
 use mathlib.Core.Bool.{Bool, true, false, cond}
 use mathlib.Core.List.{List, []}
 use lib.ListN.{length, drop, getD, drop-of-length-le}
@@ -25,22 +25,20 @@ use Rattle.unit_drawing.specs.declared.Hit.the-variants as hit
 use Rattle.unit_head.specs.declared.State.{State}
 use Rattle.unit_cursor.specs.Cursor.{Buffer}
 use Rattle.unit_pen.specs.Pen.{seenOf}
-use Rattle.unit_step.specs.Step.{lookAt, motionAt, dataTo, hitBy, behindData, advanceWith, advanceOf, stillOf, movedOf, itemsMoved, itemsDrawn}
+use Rattle.unit_step.specs.Step.{lookAt, motionAt, dataTo, hitBy, dataBehind, advanceWith, advanceOf, stillOf, movedOf, itemsMoved, itemsDrawn}
+use Rattle.unit_step.specs.declared.Ahead.the-variants.{Nothing, Data}
 use Rattle.unit_step.specs.declared.Stepped.{Stepped}
 use Rattle.unit_step.specs.declared.Stepped.the-variants.{Goes, Stops}
 use Rattle.unit_step.specs.declared.End.{End}
 use Rattle.unit_step.specs.declared.End.the-variants.{SightsUsed, NoRoom}
 use Rattle.unit_run.specs.declared.Turn.{Turn}
 use Rattle.unit_run.specs.declared.Turn.the-variants.{On, Last, NotDone}
-use Rattle.unit_run.specs.Run.{isDone, isStill, endsWith, turnBy, outBy, runFrom, outFrom, progress, progressBy, listBy, turnOf, outOf}
+use Rattle.unit_run.specs.Run.{isDone, movesOver, endsWith, turnBy, outBy, runFrom, outFrom, progress, progressBy, listBy, turnOf, outOf}
 
-no : false ≡ true → ⊥
-no e =
+nothing : {k : ℕ} → Nothing ≡ Data k → ⊥
+nothing e =
     let z : _≡_ {A = ℕ} 0 1 = cc in
     omega arith
-
-yes : (m : Motion) → m ≡ motion.Still → isStill m ≡ false → ⊥
-yes m e t = no (sym t ∙ ap isStill e)
 
 full : {k : ℕ} → Full ≡ Next k → ⊥
 full e =
@@ -56,6 +54,26 @@ last : {s s′ : State} {e : End} {n k : ℕ} → Last s n e ≡ On s′ k → �
 last h =
     let z : _≡_ {A = ℕ} 0 1 = cc in
     omega arith
+
+-- a look without data leaves the beam still
+no-data : (s : State) (l : Look) → dataBehind l ≡ Nothing → motion.Still ≡ motionAt l s
+unfolding motionOf
+no-data s (look.Fault f) t = refl
+no-data s (look.Check a) t = refl
+no-data s (look.Enter n next) t = refl
+no-data s (look.Pass next) t = refl
+no-data s (look.Timer next) t = refl
+no-data s (look.SetPen p next) t = refl
+no-data s (look.End next) t = refl
+no-data s (look.Jump target) t = refl
+no-data s (look.Either target next) t = refl
+no-data s (look.Two x y next) t = absurd (nothing (sym t))
+no-data s (look.Four x₁ x₂ y₁ y₂ next) t = absurd (nothing (sym t))
+
+still-motion : (s : State) (l : Look) (m : Motion) → m ≡ motionAt l s → movesOver m l ≡ Nothing → motion.Still ≡ motionAt l s
+still-motion s l motion.Still e t = e
+still-motion s l (motion.To k a b) e t = no-data s l t
+still-motion s l (motion.Codes z a b) e t = no-data s l t
 
 -- a step of a still beam advances by its look alone and draws nothing
 module _ (s : State) (l : Look) (sight : ℕ) (e : motion.Still ≡ motionAt l s) where
@@ -77,13 +95,13 @@ module _ (out : List ℕ) (items : ℕ) (h : items ≤ length out / 8) where
   unfolding listed
   none-listed = simp (le-leb (items + 0) (length out / 8) (omega arith))
 
-either-way : (t : Bool) (out : List ℕ) → cond t out out ≡ out
-either-way true out = refl
-either-way false out = refl
+same-both : (t : Bool) (out : List ℕ) → cond t out out ≡ out
+same-both true out = refl
+same-both false out = refl
 
 same-out : (st : Stepped) (out : List ℕ) → outBy st out out ≡ out
 same-out (Goes s) out = refl
-same-out (Stops s e) out = either-way (isDone e) out
+same-out (Stops s e) out = same-both (isDone e) out
 
 module _ (b : Buffer) (out : List ℕ) (s : State) (sight items : ℕ) where
   still-by : motion.Still ≡ motionAt (lookAt (b .words) s) s → items ≤ length out / 8 → (turnOf b s sight items out ≡ turnBy s (stillOf s (lookAt (b .words) s)) (Next items)) × (outOf b s sight items out ≡ out)
@@ -93,25 +111,28 @@ module _ (b : Buffer) (out : List ℕ) (s : State) (sight items : ℕ) where
     rw (still-items s (lookAt (b .words) s) sight e b, none-listed out items h) (same-out (advanceOf s (lookAt (b .words) s) sight) out),
   )
 
-  pub still-turn : (m : Motion) → m ≡ motionAt (lookAt (b .words) s) s → isStill m ≡ true → items ≤ length out / 8 → (turnOf b s sight items out ≡ turnBy s (stillOf s (lookAt (b .words) s)) (Next items)) × (outOf b s sight items out ≡ out)
-  still-turn motion.Still e t h = still-by e h
-  still-turn (motion.To k a b) e t h = absurd (no t)
-  still-turn (motion.Codes z a b) e t h = absurd (no t)
+  pub still-turn : (m : Motion) → m ≡ motionAt (lookAt (b .words) s) s → movesOver m (lookAt (b .words) s) ≡ Nothing → items ≤ length out / 8 → (turnOf b s sight items out ≡ turnBy s (stillOf s (lookAt (b .words) s)) (Next items)) × (outOf b s sight items out ≡ out)
+  still-turn m e t h = still-by (still-motion s (lookAt (b .words) s) m e t) h
 
--- a step that moves the beam reads data
-moved-advance : (s : State) (l : Look) (m : Motion) (sight : ℕ) → m ≡ motionAt l s → isStill m ≡ false → advanceOf s l sight ≡ movedOf s l m sight
-unfolding advanceOf advanceWith movedOf motionOf
-moved-advance s (look.Fault f) m sight e t = absurd (yes m e t)
-moved-advance s (look.Check a) m sight e t = absurd (yes m e t)
-moved-advance s (look.Enter n next) m sight e t = absurd (yes m e t)
-moved-advance s (look.Pass next) m sight e t = absurd (yes m e t)
-moved-advance s (look.Timer next) m sight e t = absurd (yes m e t)
-moved-advance s (look.SetPen p next) m sight e t = absurd (yes m e t)
-moved-advance s (look.End next) m sight e t = absurd (yes m e t)
-moved-advance s (look.Jump target) m sight e t = absurd (yes m e t)
-moved-advance s (look.Either target next) m sight e t = absurd (yes m e t)
-moved-advance s (look.Two x y next) m sight e t = rw e
-moved-advance s (look.Four x₁ x₂ y₁ y₂ next) m sight e t = rw e
+-- a step that moves the beam goes over its data
+moved-by : (s : State) (l : Look) (m : Motion) (sight next : ℕ) → m ≡ motionAt l s → dataBehind l ≡ Data next → advanceOf s l sight ≡ movedOf s next m sight
+unfolding advanceOf advanceWith movedOf
+moved-by s (look.Fault f) m sight next e t = absurd (nothing t)
+moved-by s (look.Check a) m sight next e t = absurd (nothing t)
+moved-by s (look.Enter n a) m sight next e t = absurd (nothing t)
+moved-by s (look.Pass a) m sight next e t = absurd (nothing t)
+moved-by s (look.Timer a) m sight next e t = absurd (nothing t)
+moved-by s (look.SetPen p a) m sight next e t = absurd (nothing t)
+moved-by s (look.End a) m sight next e t = absurd (nothing t)
+moved-by s (look.Jump target) m sight next e t = absurd (nothing t)
+moved-by s (look.Either target a) m sight next e t = absurd (nothing t)
+moved-by s (look.Two x y a) m sight next e t = let same : a ≡ next = cc in rw (e, same)
+moved-by s (look.Four x₁ x₂ y₁ y₂ a) m sight next e t = let same : a ≡ next = cc in rw (e, same)
+
+moved-advance : (s : State) (l : Look) (m : Motion) (sight next : ℕ) → m ≡ motionAt l s → movesOver m l ≡ Data next → advanceOf s l sight ≡ movedOf s next m sight
+moved-advance s l motion.Still sight next e t = absurd (nothing t)
+moved-advance s l (motion.To k a b) sight next e t = moved-by s l (motion.To k a b) sight next e t
+moved-advance s l (motion.Codes z a b) sight next e t = moved-by s l (motion.Codes z a b) sight next e t
 
 -- data are done wherever the sight falls
 full-by : (s : State) (b : Beam) (next : ℕ) (h : Hit) → turnBy s (dataTo s b next h) Full ≡ NotDone s NoRoom
@@ -122,33 +143,33 @@ out-by : (s : State) (b : Beam) (next : ℕ) (h : Hit) (out out′ : List ℕ) �
 out-by s b next hit.Missed out out′ = refl
 out-by s b next (hit.At a e) out out′ = refl
 
-pub moved-full : (s : State) (l : Look) (m : Motion) (sight : ℕ) → turnBy s (movedOf s l m sight) Full ≡ NotDone s NoRoom
+pub moved-full : (s : State) (next : ℕ) (m : Motion) (sight : ℕ) → turnBy s (movedOf s next m sight) Full ≡ NotDone s NoRoom
 unfolding movedOf
-moved-full s l m sight = full-by s (beamAfter m (s .beam)) (behindData l) (hitBy s m (seenOf (s .pen) sight))
+moved-full s next m sight = full-by s (beamAfter m (s .beam)) next (hitBy s m (seenOf (s .pen) sight))
 
-moved-out : (s : State) (l : Look) (m : Motion) (sight : ℕ) (out out′ : List ℕ) → outBy (movedOf s l m sight) out out′ ≡ out′
+moved-out : (s : State) (next : ℕ) (m : Motion) (sight : ℕ) (out out′ : List ℕ) → outBy (movedOf s next m sight) out out′ ≡ out′
 unfolding movedOf
-moved-out s l m sight out out′ = out-by s (beamAfter m (s .beam)) (behindData l) (hitBy s m (seenOf (s .pen) sight)) out out′
+moved-out s next m sight out out′ = out-by s (beamAfter m (s .beam)) next (hitBy s m (seenOf (s .pen) sight)) out out′
 
-module _ (b : Buffer) (out : List ℕ) (s : State) (sight items : ℕ) (m : Motion) (e : m ≡ motionAt (lookAt (b .words) s) s) (t : isStill m ≡ false) where
-  pub moved-turn : turnOf b s sight items out ≡ turnBy s (movedOf s (lookAt (b .words) s) m sight) (listing (length out) items (itemsMoved b s m sight))
+module _ (b : Buffer) (out : List ℕ) (s : State) (sight items : ℕ) (m : Motion) (next : ℕ) (e : m ≡ motionAt (lookAt (b .words) s) s) (t : movesOver m (lookAt (b .words) s) ≡ Data next) where
+  pub moved-turn : turnOf b s sight items out ≡ turnBy s (movedOf s next m sight) (listing (length out) items (itemsMoved b s m sight))
   unfolding turnOf itemsDrawn
-  moved-turn = rw (moved-advance s (lookAt (b .words) s) m sight e t, ← e)
+  moved-turn = rw (moved-advance s (lookAt (b .words) s) m sight next e t, ← e)
 
   pub moved-list : outOf b s sight items out ≡ listed out items (itemsMoved b s m sight)
   unfolding outOf itemsDrawn
-  moved-list = rw (moved-advance s (lookAt (b .words) s) m sight e t, ← e) (moved-out s (lookAt (b .words) s) m sight out (listed out items (itemsMoved b s m sight)))
+  moved-list = rw (moved-advance s (lookAt (b .words) s) m sight next e t, ← e) (moved-out s next m sight out (listed out items (itemsMoved b s m sight)))
 
--- a turn that goes on has what it lists within the list
+-- a turn that goes on has what it lists listed-within the list
 within-by : (room items k : ℕ) (is : List Item) (b : Bool) → fits room items is ≡ b → cond b (Next (items + length is)) Full ≡ Next k → k ≤ room / 8
 within-by room items k is true e h =
     let n : items + length is ≡ k = cc in
     omega (arith, leb-true (items + length is) (room / 8) e)
 within-by room items k is false e h = absurd (full h)
 
-within : (room items k : ℕ) (is : List Item) → listing room items is ≡ Next k → k ≤ room / 8
+listed-within : (room items k : ℕ) (is : List Item) → listing room items is ≡ Next k → k ≤ room / 8
 unfolding listing
-within room items k is h = within-by room items k is (fits room items is) refl h
+listed-within room items k is h = within-by room items k is (fits room items is) refl h
 
 stops-by : (s s′ s″ : State) (k : ℕ) (e : End) (li : Listing) (b : Bool) → cond b (endsWith s s″ e li) (NotDone s″ e) ≡ On s′ k → ⊥
 stops-by s s′ s″ k e Full true h = not-done h
@@ -164,7 +185,7 @@ pub room-kept : (b : Buffer) (out : List ℕ) (s s′ : State) (sight items k : 
 unfolding turnOf
 room-kept b out s s′ sight items k e =
     let is = itemsDrawn b s (lookAt (b .words) s) sight in
-    within (length out) items k is (listed-by s s′ k (advanceOf s (lookAt (b .words) s) sight) (listing (length out) items is) e)
+    listed-within (length out) items k is (listed-by s s′ k (advanceOf s (lookAt (b .words) s) sight) (listing (length out) items is) e)
 
 module _ (b : Buffer) (sights : List ℕ) (i : ℕ) (s : State) (n items : ℕ) (out : List ℕ) where
   module _ (h : i < length sights) (t : Turn) (out′ : List ℕ) (e : t ≡ turnOf b s (getD sights i 0) items out) (o : out′ ≡ outOf b s (getD sights i 0) items out) where

@@ -1,17 +1,18 @@
 -- A run (01, "The pen"): "A run is given one sight per step and answers the steps done and why it ended".
 use Prim.Native.Nat.{ℕ, _+_}
-use mathlib.Core.Bool.{Bool, true, false, cond, _&&_, _||_}
+use mathlib.Core.Bool.{Bool, true, false, cond, _&&_}
 use mathlib.Core.List.{List, [], _∷_}
 use lib.Dec.{leb}
 use lib.ListN.{length}
-use Rattle.ground_refusals.specs.declared.Refusal.the-variants.{UnknownSight}
+use Rattle.ground_refusals.specs.Refusals.{refusalNumber}
+use Rattle.ground_look.specs.declared.Look.{Look}
 use Rattle.unit_items.specs.Items.{listing, listed}
 use Rattle.unit_items.specs.declared.Listing.{Listing}
 use Rattle.unit_items.specs.declared.Listing.the-variants.{Full, Next}
 use Rattle.unit_motion.specs.declared.Motion.{Motion}
 use Rattle.unit_motion.specs.declared.Motion.the-variants as motion
 use Rattle.unit_cursor.specs.Cursor.{Buffer}
-use Rattle.unit_head.specs.Head.{DisplayUnit, bufferOf}
+use Rattle.unit_head.specs.Head.{DisplayUnit, unit, bufferOf}
 use Rattle.unit_head.specs.declared.State.{State}
 use Rattle.unit_head.specs.declared.Sense.{Sense}
 use Rattle.unit_head.specs.declared.Head.{Head}
@@ -19,11 +20,15 @@ use Rattle.unit_step.specs.declared.End.{End}
 use Rattle.unit_step.specs.declared.End.the-variants as end
 use Rattle.unit_step.specs.declared.Stepped.{Stepped}
 use Rattle.unit_step.specs.declared.Stepped.the-variants as stepped
-use Rattle.unit_step.specs.Step.{lookAt, advanceOf, itemsDrawn}
+use Rattle.unit_sense.specs.Sense.{senseJoined}
+use Rattle.unit_step.specs.declared.Ahead.{Ahead}
+use Rattle.unit_step.specs.declared.Ahead.the-variants.{Nothing}
+use Rattle.unit_step.specs.Step.{endNumber, lookAt, dataBehind, advanceOf, itemsDrawn}
 use Rattle.unit_run.specs.declared.Turn.{Turn}
 use Rattle.unit_run.specs.declared.Turn.the-variants as turn
 use Rattle.unit_run.specs.declared.Progress.{Progress}
-use Rattle.unit_run.specs.declared.RunReply.the-variants as outcome
+use Rattle.unit_run.specs.declared.RunReply.{RunReply}
+use Rattle.unit_run.specs.declared.RunReply.the-variants as reply
 use Rattle.unit_run.specs.declared.HeadRan.{HeadRan}
 
 -- "Steps ended by 6 and 7 count; those ended by 1 to 5, 8 and 9 are not done"
@@ -41,6 +46,10 @@ abbrev pub isStill : Motion → Bool
 isStill motion.Still = true
 isStill (motion.To k t b) = false
 isStill (motion.Codes z a b) = false
+
+-- the data that a step moves the beam over
+abbrev pub movesOver : Motion → Look → Ahead
+movesOver m l = cond (isStill m) Nothing (dataBehind l)
 
 -- a step that is done if what it draws fits: "then 9, judged on the items really drawn. After 9 the unit still runs at that place."
 abbrev pub goesOn : State → State → Listing → Turn
@@ -111,12 +120,7 @@ statusAfter end.DataCheck status = 0x82
 statusAfter end.NoRoom status = status
 statusAfter end.NotRunning status = status
 
--- "A stop's new sense bits replace the standing ones if Sense has given those, else join them."
-unfoldable pub senseJoined : Sense → Bool → Bool → Bool → Sense
-senseJoined s check detect ended =
-    cond (s .given) (record { reject = false; check = check; detect = detect; ended = ended; given = false })
-    (record { reject = s .reject; check = s .check || check; detect = s .detect || detect; ended = s .ended || ended; given = false })
-
+-- which sense bit each stop sets
 abbrev pub senseAfter : End → Sense → Sense
 senseAfter end.SightsUsed s = s
 senseAfter (end.Fault f) s = s
@@ -131,18 +135,35 @@ abbrev pub headAfter : Head → Progress → Head
 headAfter h p =
     record { state = p .state; status = statusAfter (p .end) (h .status); sense = senseAfter (p .end) (h .sense); cursor = h .cursor }
 
-abbrev pub ranBy : Head → Progress → HeadRan
-ranBy h p = record { head = headAfter h p; answer = outcome.Done (p .steps) (p .end) (p .items) }
+-- a run's answer in 01's numbers: the steps done, why it ended, and how many items it listed; or the number of its refusal
+pub data RunValues : Type 0 where
+  ran : ℕ → ℕ → ℕ → RunValues
+  refused : ℕ → RunValues
 
--- a run of a unit: "10 is tried before 0"
-unfoldable pub unitRun : DisplayUnit → List ℕ → List ℕ → HeadRan
+abbrev pub runValues : RunReply → RunValues
+runValues (reply.Done steps e items) = RunValues.ran steps (endNumber e) items
+runValues (reply.Refused r) = RunValues.refused (refusalNumber r)
+
+-- what a run leaves: the unit, the answer, and the list lent
+pub record RunEnd : Type 0 where
+  pub unit : DisplayUnit
+  pub answer : RunValues
+  pub list : List ℕ
+
+-- the same of a call that gives the head beside its answer
+abbrev pub runEnded : List ℕ → HeadRan → List ℕ → RunEnd
+runEnded words r list = record { unit = unit words (r .head); answer = runValues (r .answer); list = list }
+
+-- a run that is not refused
+abbrev pub ranBy : DisplayUnit → Progress → List ℕ → RunEnd
+ranBy u p list =
+    record { unit = unit (u .words) (headAfter (u .head) p); answer = RunValues.ran (p .steps) (endNumber (p .end)) (p .items); list = list }
+
+-- a run of a unit: "8 before a run, over all its sights"; "10 is tried before 0"
+unfoldable pub unitRun : DisplayUnit → List ℕ → List ℕ → RunEnd
 unitRun u sights out =
     cond (allSights sights)
-    (ranBy (u .head)
-    (cond (u .head .state .running) (runFrom (bufferOf u) sights (u .head .state) 0 0 out) (progress (u .head .state) 0 0 end.NotRunning)))
-    (record { head = u .head; answer = outcome.Refused UnknownSight })
-
--- the list that it leaves
-unfoldable pub unitList : DisplayUnit → List ℕ → List ℕ → List ℕ
-unitList u sights out =
-    cond (allSights sights && u .head .state .running) (outFrom (bufferOf u) sights (u .head .state) 0 out) out
+    (cond (u .head .state .running)
+    (ranBy u (runFrom (bufferOf u) sights (u .head .state) 0 0 out) (outFrom (bufferOf u) sights (u .head .state) 0 out))
+    (ranBy u (progress (u .head .state) 0 0 end.NotRunning) out))
+    (record { unit = u; answer = RunValues.refused 8; list = out })

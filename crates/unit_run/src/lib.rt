@@ -2,6 +2,7 @@
 //
 // The contracts cite `specs/Run.antt`.
 use ground_look as look;
+use ground_look::Look;
 use ground_refusals::Refusal;
 use unit_cursor::Cursor;
 use unit_head::Head;
@@ -11,18 +12,20 @@ use unit_items as items;
 use unit_items::Listing;
 use unit_motion as motion;
 use unit_motion::Motion;
+use unit_sense as sense;
 use unit_step as step;
+use unit_step::Ahead;
 use unit_step::End;
 use unit_step::Stepped;
 ghost use mathlib.Core.Path.{_≡_};
-ghost use mathlib.Core.Bool.{_||_};
-ghost use Prim.Native.Nat.{_+_, _≤_, _/_};
+ghost use mathlib.Core.List.{List};
+ghost use Prim.Native.Nat.{ℕ, _+_, _≤_, _/_};
 ghost use lib.ListN.{length};
 ghost use Rattle.unit_cursor.specs.Cursor.{buffer};
 ghost use Rattle.unit_head.specs.Head.{unit};
 ghost use Rattle.unit_head.specs.declared.State.{State};
 ghost use Rattle.unit_items.specs.declared.Listing.the-variants.{Next};
-ghost use Rattle.unit_run.specs.Run.{isDone, isStill, turnBy, turnOf, outOf, progress, runFrom, outFrom, allSights, statusAfter, senseJoined, senseAfter, ranBy, unitRun, unitList};
+ghost use Rattle.unit_run.specs.Run.{isDone, isStill, movesOver, turnBy, turnOf, outOf, progress, runFrom, outFrom, allSights, statusAfter, senseAfter, runEnded, ranBy, unitRun};
 
 // One turn of a run: a step done and the state and items after it, the last one done, or one that is not done.
 pub enum Turn {
@@ -77,6 +80,17 @@ fn is_still(motion: Motion) -> bool
     }
 }
 
+// The data that a step moves the beam over.
+fn moves_over(motion: Motion, look: Look) -> Ahead
+    ensures { λ r. ⌜ r ≡ movesOver motion look ⌝ }
+{
+    if is_still(motion) {
+        Ahead::Nothing
+    } else {
+        step::data_behind(look)
+    }
+}
+
 // The turn of a step whose items fit: so many are listed then.
 fn listed_turn(stepped: Stepped, items: usize) -> Turn
     ensures { λ r. ⌜ ((s : State) → r ≡ turnBy s stepped (Next items)) ⌝ }
@@ -110,14 +124,15 @@ fn take_turn(
     let beam = state.beam;
     let look = look::look_at(words, setup, state.address, mode);
     let motion = motion::motion_of(look, mode, beam);
-    if is_still(motion) {
-        listed_turn(step::advance_still(state, look), items)
-    } else {
-        let drawn = step::draw_motion(words, cursor, state, motion, sight);
-        match items::list(out, items, drawn) {
-            Listing::Full => Turn::NotDone(state, End::NoRoom),
-            Listing::Next(listed) => {
-                listed_turn(step::advance_moved(state, look, motion, sight), listed)
+    match moves_over(motion, look) {
+        Ahead::Nothing => listed_turn(step::advance_still(state, look), items),
+        Ahead::Data(next) => {
+            let drawn = step::draw_motion(words, cursor, state, motion, sight);
+            match items::list(out, items, drawn) {
+                Listing::Full => Turn::NotDone(state, End::NoRoom),
+                Listing::Next(listed) => {
+                    listed_turn(step::advance_moved(state, next, motion, sight), listed)
+                }
             }
         }
     }
@@ -192,36 +207,6 @@ fn status_after(end: End, status: u8) -> u8
     }
 }
 
-// Whether one of two holds.
-fn either(a: bool, b: bool) -> bool
-    ensures { λ r. ⌜ r ≡ (a || b) ⌝ }
-{
-    if a { true } else { b }
-}
-
-// A stop's new sense bits with the standing ones.
-fn joined(sense: Sense, check: bool, detect: bool, ended: bool) -> Sense
-    ensures { λ r. ⌜ r ≡ senseJoined sense check detect ended ⌝ }
-{
-    if sense.given {
-        Sense {
-            reject: false,
-            check: check,
-            detect: detect,
-            ended: ended,
-            given: false,
-        }
-    } else {
-        Sense {
-            reject: sense.reject,
-            check: either(sense.check, check),
-            detect: either(sense.detect, detect),
-            ended: either(sense.ended, ended),
-            given: false,
-        }
-    }
-}
-
 // The sense bits after the end of a run.
 fn sense_after(end: End, sense: Sense) -> Sense
     ensures { λ r. ⌜ r ≡ senseAfter end sense ⌝ }
@@ -229,9 +214,9 @@ fn sense_after(end: End, sense: Sense) -> Sense
     match end {
         End::SightsUsed => sense,
         End::Fault(_) => sense,
-        End::EndOrder => joined(sense, false, false, true),
-        End::Detect => joined(sense, false, true, false),
-        End::DataCheck => joined(sense, true, false, false),
+        End::EndOrder => sense::joined(sense, false, false, true),
+        End::Detect => sense::joined(sense, false, true, false),
+        End::DataCheck => sense::joined(sense, true, false, false),
         End::NoRoom => sense,
         End::NotRunning => sense,
     }
@@ -239,7 +224,7 @@ fn sense_after(end: End, sense: Sense) -> Sense
 
 // The head after a run.
 fn ran_by(mut head: Head, progress: Progress) -> HeadRan
-    ensures { λ r. ⌜ r ≡ ranBy head progress ⌝ }
+    ensures { λ r. ⌜ ((words list : List ℕ) → runEnded words r list ≡ ranBy (unit words head) progress list) ⌝ }
 {
     let end = progress.end;
     let state = progress.state;
@@ -255,7 +240,7 @@ fn ran_by(mut head: Head, progress: Progress) -> HeadRan
 
 // Runs the unit, one step for each sight, and lists what is drawn, eight numbers an item.
 pub fn run(words: &[u16], head: Head, sights: &[u8], out: &mut [u16]) -> HeadRan
-    ensures { λ r. ⌜ (r ≡ unitRun (unit (now (words .entry)) head) (now (sights .entry)) (now (out .entry))) × (now (out .exit) ≡ unitList (unit (now (words .entry)) head) (now (sights .entry)) (now (out .entry))) ⌝ }
+    ensures { λ r. ⌜ runEnded (now (words .entry)) r (now (out .exit)) ≡ unitRun (unit (now (words .entry)) head) (now (sights .entry)) (now (out .entry)) ⌝ }
 {
     if !all_sights(sights) {
         return HeadRan {

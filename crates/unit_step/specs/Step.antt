@@ -22,6 +22,8 @@ use Rattle.unit_head.specs.declared.State.{State}
 use Rattle.ground_setup.specs.Setup.{wrapOf, aheadOf}
 use Rattle.unit_step.specs.declared.End.{End}
 use Rattle.unit_step.specs.declared.End.the-variants as end
+use Rattle.unit_step.specs.declared.Ahead.{Ahead}
+use Rattle.unit_step.specs.declared.Ahead.the-variants as ahead
 use Rattle.unit_step.specs.declared.Stepped.{Stepped}
 use Rattle.unit_step.specs.declared.Stepped.the-variants as stepped
 
@@ -44,8 +46,8 @@ abbrev pub motionAt : Look → State → Motion
 motionAt l s = motionOf l (s .mode) (s .beam)
 
 -- the state at another address and mode, still running
-abbrev pub at : State → ℕ → Mode → State
-at s a m = record { setup = s .setup; address = a; mode = m; running = s .running; beam = s .beam; pen = s .pen }
+abbrev pub stateAt : State → ℕ → Mode → State
+stateAt s a m = record { setup = s .setup; address = a; mode = m; running = s .running; beam = s .beam; pen = s .pen }
 
 -- the state at another address, idle, with another pen
 abbrev pub penned : State → ℕ → Pen → State
@@ -71,19 +73,19 @@ dataTo s b next (hit.At a e) = stepped.Stops (struck s a e) end.Detect
 -- a Transfer On No Detect, by whether it goes
 abbrev pub eitherBy : State → ℕ → ℕ → Bool → Stepped
 eitherBy s target next goes =
-    cond goes (stepped.Goes (penned s target (transferred (s .pen)))) (stepped.Goes (at s next Idle))
+    cond goes (stepped.Goes (penned s target (transferred (s .pen)))) (stepped.Goes (stateAt s next Idle))
 
 -- what a look makes of the state; h is the item that the sight falls on, b where data leave the beam. "Any fault stops regeneration at A
 -- with no status (house)"; "bad parity stops with Data Check at that byte"; "End Order Sequence stops in idle, .. the address after it"
 abbrev pub advanceTo : State → Beam → Hit → Look → Stepped
 advanceTo s b h (look.Fault f) = stepped.Stops (stopped s (s .address) (s .mode)) (end.Fault f)
 advanceTo s b h (look.Check a) = stepped.Stops (stopped s a (s .mode)) end.DataCheck
-advanceTo s b h (look.Enter m next) = stepped.Goes (at s next m)
-advanceTo s b h (look.Pass next) = stepped.Goes (at s next Idle)
+advanceTo s b h (look.Enter m next) = stepped.Goes (stateAt s next m)
+advanceTo s b h (look.Pass next) = stepped.Goes (stateAt s next Idle)
 advanceTo s b h (look.Timer next) = stepped.Goes (penned s next (timed (s .pen)))
 advanceTo s b h (look.SetPen p next) = stepped.Goes (penned s next (ordered (s .pen) p))
 advanceTo s b h (look.End next) = stepped.Stops (stopped s next Idle) end.EndOrder
-advanceTo s b h (look.Jump target) = stepped.Goes (at s target Idle)
+advanceTo s b h (look.Jump target) = stepped.Goes (stateAt s target Idle)
 advanceTo s b h (look.Either target next) = eitherBy s target next (transfers (s .pen))
 advanceTo s b h (look.Two x y next) = dataTo s b next h
 advanceTo s b h (look.Four x₁ x₂ y₁ y₂ next) = dataTo s b next h
@@ -104,23 +106,23 @@ advanceOf s l sight = advanceWith s l (motionAt l s) sight
 unfoldable pub stillOf : State → Look → Stepped
 stillOf s l = advanceTo s (s .beam) hit.Missed l
 
--- the address behind data
-abbrev pub behindData : Look → ℕ
-behindData (look.Fault f) = 0
-behindData (look.Check a) = 0
-behindData (look.Enter m next) = 0
-behindData (look.Pass next) = 0
-behindData (look.Timer next) = 0
-behindData (look.SetPen p next) = 0
-behindData (look.End next) = 0
-behindData (look.Jump target) = 0
-behindData (look.Either target next) = 0
-behindData (look.Two x y next) = next
-behindData (look.Four x₁ x₂ y₁ y₂ next) = next
+-- the address behind the data of a look, where it has data
+abbrev pub dataBehind : Look → Ahead
+dataBehind (look.Fault f) = ahead.Nothing
+dataBehind (look.Check a) = ahead.Nothing
+dataBehind (look.Enter m next) = ahead.Nothing
+dataBehind (look.Pass next) = ahead.Nothing
+dataBehind (look.Timer next) = ahead.Nothing
+dataBehind (look.SetPen p next) = ahead.Nothing
+dataBehind (look.End next) = ahead.Nothing
+dataBehind (look.Jump target) = ahead.Nothing
+dataBehind (look.Either target next) = ahead.Nothing
+dataBehind (look.Two x y next) = ahead.Data next
+dataBehind (look.Four x₁ x₂ y₁ y₂ next) = ahead.Data next
 
--- advancing over data, by their motion
-unfoldable pub movedOf : State → Look → Motion → ℕ → Stepped
-movedOf s l m sight = dataTo s (beamAfter m (s .beam)) (behindData l) (hitBy s m (seenOf (s .pen) sight))
+-- advancing over data to the address behind them, by their motion
+unfoldable pub movedOf : State → ℕ → Motion → ℕ → Stepped
+movedOf s next m sight = dataTo s (beamAfter m (s .beam)) next (hitBy s m (seenOf (s .pen) sight))
 
 -- listing: what a step with a sight draws, up to the item that a detect falls on, by its motion; a cursor at A and one at A+1 are drawn too
 unfoldable pub itemsMoved : Buffer → State → Motion → ℕ → List Item

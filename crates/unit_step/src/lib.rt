@@ -21,7 +21,7 @@ ghost use mathlib.Core.Path.{_≡_};
 ghost use Prim.Native.Nat.{_<_};
 ghost use Rattle.unit_items.specs.Items.{itemsOf};
 ghost use Rattle.unit_cursor.specs.Cursor.{buffer};
-ghost use Rattle.unit_step.specs.Step.{endNumber, at, penned, beamed, stopped, struck, dataTo, eitherBy, advanceTo, hitBy, advanceWith, stillOf, behindData, movedOf, itemsMoved};
+ghost use Rattle.unit_step.specs.Step.{endNumber, stateAt, penned, beamed, stopped, struck, dataTo, eitherBy, advanceTo, hitBy, advanceWith, stillOf, dataBehind, movedOf, itemsMoved};
 
 // Why a run ends.
 pub enum End {
@@ -47,6 +47,14 @@ pub enum Stepped {
     Stops(State, End),
 }
 
+// What a look leads behind.
+pub enum Ahead {
+    // No data.
+    Nothing,
+    // Data, with the address behind them.
+    Data(usize),
+}
+
 // The number that 01 gives the end of a run.
 pub fn end_number(end: End) -> u8
     ensures { λ r. ⌜ (r ≡ endNumber end) × (r < 11) ⌝ }
@@ -64,7 +72,7 @@ pub fn end_number(end: End) -> u8
 
 // The state at another address and mode.
 fn at_place(state: State, address: usize, mode: Mode) -> State
-    ensures { λ r. ⌜ r ≡ at state address mode ⌝ }
+    ensures { λ r. ⌜ r ≡ stateAt state address mode ⌝ }
 {
     let setup = state.setup;
     let beam = state.beam;
@@ -180,22 +188,22 @@ fn hit_at(state: State, motion: Motion, seen: u8) -> Hit
     drawing::hit_of(motion, beam, size, state.address, seen)
 }
 
-// The address behind the data of a look.
-fn behind(look: Look) -> usize
-    ensures { λ r. ⌜ r ≡ behindData look ⌝ }
+// The address behind the data of a look, where it has data.
+pub fn data_behind(look: Look) -> Ahead
+    ensures { λ r. ⌜ r ≡ dataBehind look ⌝ }
 {
     match look {
-        Look::Fault(_) => 0,
-        Look::Check(_) => 0,
-        Look::Enter(_, _) => 0,
-        Look::Pass(_) => 0,
-        Look::Timer(_) => 0,
-        Look::SetPen(_, _) => 0,
-        Look::End(_) => 0,
-        Look::Jump(_) => 0,
-        Look::Either(_, _) => 0,
-        Look::Two(_, _, next) => next,
-        Look::Four(_, _, _, _, next) => next,
+        Look::Fault(_) => Ahead::Nothing,
+        Look::Check(_) => Ahead::Nothing,
+        Look::Enter(_, _) => Ahead::Nothing,
+        Look::Pass(_) => Ahead::Nothing,
+        Look::Timer(_) => Ahead::Nothing,
+        Look::SetPen(_, _) => Ahead::Nothing,
+        Look::End(_) => Ahead::Nothing,
+        Look::Jump(_) => Ahead::Nothing,
+        Look::Either(_, _) => Ahead::Nothing,
+        Look::Two(_, _, next) => Ahead::Data(next),
+        Look::Four(_, _, _, _, next) => Ahead::Data(next),
     }
 }
 
@@ -217,14 +225,14 @@ pub fn advance_still(state: State, look: Look) -> Stepped
     advance_to(state, beam, Hit::Missed, look)
 }
 
-// Advances the state over the data of a look, by their motion and what the pen is shown.
-pub fn advance_moved(state: State, look: Look, motion: Motion, sight: u8) -> Stepped
-    ensures { λ r. ⌜ r ≡ movedOf state look motion sight ⌝ }
+// Advances the state over data to the address behind them, by their motion and what the pen is shown.
+pub fn advance_moved(state: State, next: usize, motion: Motion, sight: u8) -> Stepped
+    ensures { λ r. ⌜ r ≡ movedOf state next motion sight ⌝ }
 {
     let beam = state.beam;
     let pen = state.pen;
     let hit = hit_at(state, motion, pen::seen_of(pen, sight));
-    data_by(state, motion::beam_after(motion, beam), behind(look), hit)
+    data_by(state, motion::beam_after(motion, beam), next, hit)
 }
 
 // What a step draws: its motion, and what the pen is shown.

@@ -10,7 +10,7 @@ use lib.ListN.{length, drop}
 use Rattle.validator_walks.specs.Steps.{Step, Leads}
 use Rattle.validator_store.specs.Store.{bitOf, marked, tally, entryAt, saved}
 use Rattle.validator_store.proofs.Bits.{marked-same, marked-other, marked-keeps, tally-below, tally-above, tally-le, length-marked, length-saved, drop-marked, drop-saved, bitOf-saved, tally-saved, entry-marked, entry-saved, entry-saved-other, tally-lt}
-use Rattle.validator_search.specs.Search.{slot, Plan, Fitted, Grown, Visited, Ready, Opened}
+use Rattle.validator_search.specs.Invariant.{slot, Plan, Fitted, Grown, Visited, Ready, Opened}
 
 -- an entry lies behind the bits and before the end
 pub slot-low : (side : Bool) (base cap j : ℕ) → base ≤ slot side base cap j

@@ -12,7 +12,7 @@ use Rattle.validator_walks.specs.Steps.{Step, Leads}
 use Rattle.validator_walks.specs.Walks.{Reach, Reached, Counted, Clean, First}
 use Rattle.validator_store.specs.Store.{bitOf, tally, entryAt, cleared}
 use Rattle.validator_store.proofs.Bits.{bitOf-lt, length-cleared, cleared-bit, cleared-tally, drop-cleared}
-use Rattle.validator_search.specs.Search.{slot, Plan, Fitted, Grown, Visited, Ready, Opened, Mid, Next, Closed, Entered, Blamed, none}
+use Rattle.validator_search.specs.Invariant.{slot, Plan, Fitted, Grown, Visited, Ready, Opened, Mid, Next, Closed, Entered, Blamed, none}
 use Rattle.validator_search.proofs.Growth.{unchanged}
 
 module _ (P : Plan) (S : Fitted P) where
@@ -99,8 +99,8 @@ module _ (P : Plan) (S : Fitted P) where
 
   module _ (s : List ℕ) (side : Bool) (t k c : ℕ) (M : Mid P s side zero t k none c) where
     -- after a level without a fault, whatever is reached in k steps was gone on from
-    done : (p : ℕ) → Reach (P .step) (P .start) k p → Closed P s p
-    done p r =
+    gone-on : (p : ℕ) → Reach (P .step) (P .start) k p → Closed P s p
+    gone-on p r =
         ⊎-elim (λ d. d)
         (⊎-elim (λ l. absurd (not-suc-le-zero (l .1))) (λ b. absurd (blameless p (reach-lt P S k p r) b)))
         (M .here p r)
@@ -121,12 +121,12 @@ module _ (P : Plan) (S : Fitted P) where
       state = λ p b h. ⊎-elim inl (λ l. inr (inl (rw Bool·not-not l))) (flip-state p b h);
       sound = M .sound;
       before = λ j p l r. ⊎-elim
-          (λ e. done p (subst (λ (x : ℕ). Reach (P .step) (P .start) x p) e r))
+          (λ e. gone-on p (subst (λ (x : ℕ). Reach (P .step) (P .start) x p) e r))
           (λ h. M .before j p h r)
           (eq-or-lt-of-le (le-of-suc-le-suc l));
       here = λ p r.
           ⊎-elim inl (λ l. inr (inl (rw Bool·not-not l)))
-          (flip-state p (done (r .0) (r .1) .1 p (r .2)) (reach-lt P S (suc k) p r));
+          (flip-state p (gone-on (r .0) (r .1) .1 p (r .2)) (reach-lt P S (suc k) p r));
       began = M .began;
       best = λ h. absurd (not-lt-self none h);
       room = omega (arith, M .room);

@@ -8,8 +8,7 @@ use Rattle.validator_walks.specs.Places.{placesOf}
 use Rattle.validator_walks.proofs.Numbering.{address-lt}
 use Rattle.validator_walks.proofs.Images.{way-lt, two-lt, fault-lt}
 use Rattle.validator_store.proofs.Layouts.{bits-fit, entries-fit}
-use Rattle.validator_search.specs.Image.{planOf}
-use Rattle.validator_search.specs.Search.{Fitted}
+use Rattle.validator_search.specs.Invariant.{planOf, Fitted}
 
 pub fitted : (image : List ℕ) (su : Setup) (start : ℕ) → start < placesOf (su .size) → Fitted (planOf image su start)
 fitted image su start h = record {

@@ -9,7 +9,7 @@ use Rattle.validator_walks.specs.Steps.{wayOf, asStep}
 use Rattle.validator_walks.proofs.Unique.{unique-of}
 use Rattle.validator_search.specs.declared.Searched.{Searched}
 use Rattle.validator_search.specs.declared.Searched.the-variants.{Found, NoRoom}
-use Rattle.validator_search.specs.Image.{SearchAnswered}
+use Rattle.validator_search.specs.Search.{SearchAnswered}
 
 -- any two answers that the contract of `search` allows, and any two stores that it leaves, are equal
 pub searched-unique : (fits : Bool) (image : List ℕ) (su : Setup) (start : ℕ) (s s₁ s₂ : List ℕ) (r q : Searched)

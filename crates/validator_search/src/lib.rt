@@ -1,8 +1,8 @@
 // A search of all places that the walks of an image reach, level by level, in a store that the caller lends.
 //
 // Behind its bits the store holds two stacks of places' numbers that grow towards each other: the level being gone through and the
-// next. `specs/Search.antt` has the stacks and what holds in the midst of a level, over any graph, and `specs/Image.antt` what the
-// search answers for an image.
+// next. `specs/Search.antt` says what the search answers for an image; `specs/Invariant.antt`, for its proof, has the stacks and what holds in
+// the midst of a level, over any graph.
 use ground_setup::Setup;
 use ground_setup::Size;
 use validator_places as places;
@@ -18,8 +18,8 @@ ghost use lib.ListN.{length, drop};
 ghost use Rattle.validator_walks.specs.Places.{placesOf};
 ghost use Rattle.validator_store.specs.Layout.{baseOf, capOf, topOf};
 ghost use Rattle.validator_store.specs.Store.{bitOf};
-ghost use Rattle.validator_search.specs.Search.{slot, Fitted, Visited, Ready, Expands, Mid, Next, none};
-ghost use Rattle.validator_search.specs.Image.{planOf, RightBy, fitting, SearchAnswered};
+ghost use Rattle.validator_search.specs.Invariant.{slot, planOf, Fitted, Visited, Ready, Expands, Mid, Next, none};
+ghost use Rattle.validator_search.specs.Search.{RightBy, fitting, SearchAnswered};
 
 // What a search gives.
 pub enum Searched {

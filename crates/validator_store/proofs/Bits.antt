@@ -12,7 +12,7 @@ use lib.Pow.{shr-shr, shl-exact}
 use lib.ListN.{length, getD, set, drop, replicate, length-append, length-set, length-drop, length-replicate, drop-of-length-le, getD-replicate, List·getD-append, List·getD-eq-default}
 use lib.Seq.{getD-set-same, getD-set-other, drop-set-lt, drop-at, set-getD, set-out}
 use borrow.Author.Tests.{eq-eqb, ne-eqb, le-leb}
-use Rattle.validator_walks.proofs.Looks.{cond-all}
+use Rattle.ground_words.proofs.Laws.{either-way}
 use Rattle.validator_store.specs.Store.{bit, bitOf, marked, tally, entryAt, saved, cleared}
 
 bit-zero : (b : ℕ) → bit 0 b ≡ b % 2
@@ -102,7 +102,7 @@ set-missing s p =
 
 pub outside-marked : (s : List ℕ) (p : ℕ) → length s ≤ p / 8 → marked s p ≡ s
 unfolding marked
-outside-marked s p h = cond-all (λ l. l ≡ s) (eqb (bitOf s p) 0) _ s (set-out s (p / 8) _ h) refl
+outside-marked s p h = either-way (λ (l : List ℕ). l ≡ s) (eqb (bitOf s p) 0) (set-out s (p / 8) _ h) refl
 
 module _ (s : List ℕ) (p : ℕ) (inside : p < 8 * length s) (free : bitOf s p ≡ 0) where
   marked-set : marked s p ≡ set s (p / 8) (getD s (p / 8) 0 + 2 ^ (p % 8))
@@ -167,17 +167,17 @@ tally-le s (suc n) = omega (arith, tally-le s n, bitOf-lt s n)
 
 pub length-marked : (s : List ℕ) (p : ℕ) → length (marked s p) ≡ length s
 unfolding marked
-length-marked s p = cond-all (λ l. length l ≡ length s) (eqb (bitOf s p) 0) _ s (length-set s (p / 8) _) refl
+length-marked s p = either-way (λ (l : List ℕ). length l ≡ length s) (eqb (bitOf s p) 0) (length-set s (p / 8) _) refl
 
 pub drop-marked : (s : List ℕ) (p n : ℕ) → p / 8 < n → drop n (marked s p) ≡ drop n s
 unfolding marked
-drop-marked s p n h = cond-all (λ l. drop n l ≡ drop n s) (eqb (bitOf s p) 0) _ s (drop-set-lt n s (p / 8) _ h) refl
+drop-marked s p n h = either-way (λ (l : List ℕ). drop n l ≡ drop n s) (eqb (bitOf s p) 0) (drop-set-lt n s (p / 8) _ h) refl
 
 -- a byte behind that of a place that is marked
 marked-byte : (s : List ℕ) (p k : ℕ) → p / 8 < k → getD (marked s p) k 0 ≡ getD s k 0
 unfolding marked
 marked-byte s p k h =
-    cond-all (λ l. getD l k 0 ≡ getD s k 0) (eqb (bitOf s p) 0) _ s (getD-set-other s (p / 8) k _ 0 (λ e. omega arith)) refl
+    either-way (λ (l : List ℕ). getD l k 0 ≡ getD s k 0) (eqb (bitOf s p) 0) (getD-set-other s (p / 8) k _ 0 (λ e. omega arith)) refl
 
 -- a store of an entry is three stores of a byte, or none
 abbrev three : List ℕ → ℕ → ℕ → List ℕ
@@ -185,7 +185,7 @@ three s i v = set (set (set s i (v % 256)) (i + 1) (v / 65536 % 256)) (i + 2) (v
 
 saved-all : (P : List ℕ → Type 0) (s : List ℕ) (i v : ℕ) → P (three s i v) → P s → P (saved s i v)
 unfolding saved
-saved-all P s i v = cond-all P (leb (i + 3) (length s)) (three s i v) s
+saved-all P s i v = either-way P (leb (i + 3) (length s))
 
 pub length-saved : (s : List ℕ) (i v : ℕ) → length (saved s i v) ≡ length s
 length-saved s i v = saved-all (λ l. length l ≡ length s) s i v (simp length-set) refl

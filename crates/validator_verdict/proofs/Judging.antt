@@ -23,8 +23,8 @@ use Rattle.validator_walks.proofs.Images.{fault-named, right-of-numbers}
 use Rattle.validator_store.specs.Layout.{roomOf}
 use Rattle.validator_search.specs.declared.Searched.{Searched}
 use Rattle.validator_search.specs.declared.Searched.the-variants.{Found, NoRoom}
-use Rattle.validator_search.specs.Image.{fitting, SearchAnswered}
-use Rattle.validator_verdict.specs.Verdict.{Values, triedStore, RightValues, Judged}
+use Rattle.validator_search.specs.Search.{fitting, SearchAnswered}
+use Rattle.validator_verdict.specs.Verdict.{VerdictValues, triedStore, RightValues, Judged}
 
 -- a fault is known by its number
 faultOf : ℕ → Fault
@@ -47,14 +47,14 @@ module _ (image : List ℕ) (size : Size) (start : ℕ) (even : start % 2 ≡ 0)
 
   module _ (r : Searched) (A : SearchAnswered (fitting (setup size) (numberOf size (place start Idle)) (length s)) image (setup size) (numberOf size (place start Idle)) s s′ r) where
     -- the start is a place, so that the store alone decides
-    fits : (b : Bool) → leb (roomOf size) (length s) ≡ b → fitting (setup size) (numberOf size (place start Idle)) (length s) ≡ b
-    fits b e = rw (lt-ltb (numberOf size (place start Idle)) (placesOf size) (number-lt size (place start Idle) proper)) e
+    fits-store : (b : Bool) → leb (roomOf size) (length s) ≡ b → fitting (setup size) (numberOf size (place start Idle)) (length s) ≡ b
+    fits-store b e = rw (lt-ltb (numberOf size (place start Idle)) (placesOf size) (number-lt size (place start Idle) proper)) e
 
     answered : (b : Bool) → leb (roomOf size) (length s) ≡ b → SearchAnswered b image (setup size) (numberOf size (place start Idle)) s s′ r
-    answered b e = subst (λ (x : Bool). SearchAnswered x image (setup size) (numberOf size (place start Idle)) s s′ r) (fits b e) A
+    answered b e = subst (λ (x : Bool). SearchAnswered x image (setup size) (numberOf size (place start Idle)) s s′ r) (fits-store b e) A
 
   pub judged-none : SearchAnswered (fitting (setup size) (numberOf size (place start Idle)) (length s)) image (setup size) (numberOf size (place start Idle)) s s′ NoRoom
-      → Judged (triedStore size (length s)) image start s s′ (Values.refused 5)
+      → Judged (triedStore size (length s)) image start s s′ (VerdictValues.refused 5)
   judged-none A =
       elim (decLt (length s) (roomOf size)) [
         | yes l ↦ rw (lt-ltb (length s) (roomOf size) l) (refl, answered NoRoom A false (lt-leb (roomOf size) (length s) l) .1)
@@ -66,7 +66,7 @@ module _ (image : List ℕ) (size : Size) (start : ℕ) (even : start % 2 ≡ 0)
 
   found : (v : Answer)
       → SearchAnswered (fitting (setup size) (numberOf size (place start Idle)) (length s)) image (setup size) (numberOf size (place start Idle)) s s′ (Found v)
-      → (x : Values) → (Right image (setup size) start v → RightValues image (setup size) start x)
+      → (x : VerdictValues) → (Right image (setup size) start v → RightValues image (setup size) start x)
       → Judged (triedStore size (length s)) image start s s′ x
   found v A x values =
       elim (decLt (length s) (roomOf size)) [
@@ -78,15 +78,15 @@ module _ (image : List ℕ) (size : Size) (start : ℕ) (even : start % 2 ≡ 0)
 
   pub judged-passed : (c : ℕ)
       → SearchAnswered (fitting (setup size) (numberOf size (place start Idle)) (length s)) image (setup size) (numberOf size (place start Idle)) s s′ (Found (answer.Passed c))
-      → Judged (triedStore size (length s)) image start s s′ (Values.passed c)
-  judged-passed c A = found (answer.Passed c) A (Values.passed c) (λ R. R)
+      → Judged (triedStore size (length s)) image start s s′ (VerdictValues.passed c)
+  judged-passed c A = found (answer.Passed c) A (VerdictValues.passed c) (λ R. R)
 
   -- the fault that has the number is the one that was met
   pub judged-fault : (n a k : ℕ) (g : Fault) → ((f : Fault) → faultNumber f ≡ n → g ≡ f)
       → SearchAnswered (fitting (setup size) (numberOf size (place start Idle)) (length s)) image (setup size) (numberOf size (place start Idle)) s s′ (Found (answer.Fault n a k))
-      → Judged (triedStore size (length s)) image start s s′ (Values.fault (faultNumber g) a k)
+      → Judged (triedStore size (length s)) image start s s′ (VerdictValues.fault (faultNumber g) a k)
   judged-fault n a k g named A =
-      found (answer.Fault n a k) A (Values.fault (faultNumber g) a k)
+      found (answer.Fault n a k) A (VerdictValues.fault (faultNumber g) a k)
       (λ R.
       let f = fault-named image (setup size) (R .met) n (R .faulty) in
       subst (λ (x : ℕ). Right image (setup size) start (answer.Fault x a k)) (sym (ap faultNumber (named (f .0) (f .1)) ∙ f .1)) R)

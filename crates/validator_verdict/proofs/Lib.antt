@@ -1,3 +1,4 @@
 -- hand-written modules
 pub mod Judging
 pub mod Unique
+pub mod Tells

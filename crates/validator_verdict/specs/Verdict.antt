@@ -20,15 +20,15 @@ use Rattle.validator_verdict.specs.declared.Verdict.the-variants as verd
 
 -- an answer in 01's numbers: "passed, with the number of different places any walk reaches; fault, with number, address and fewest
 -- steps before it; or refused"
-pub data Values : Type 0 where
-  passed : ℕ → Values
-  fault : ℕ → ℕ → ℕ → Values
-  refused : ℕ → Values
+pub data VerdictValues : Type 0 where
+  passed : ℕ → VerdictValues
+  fault : ℕ → ℕ → ℕ → VerdictValues
+  refused : ℕ → VerdictValues
 
-abbrev pub valuesOf : Verdict → Values
-valuesOf (verdict.Passed c) = Values.passed c
-valuesOf (verdict.Fault f a k) = Values.fault (faultNumber f) a k
-valuesOf (verdict.Refused r) = Values.refused (refusalNumber r)
+abbrev pub verdictValues : Verdict → VerdictValues
+verdictValues (verdict.Passed c) = VerdictValues.passed c
+verdictValues (verdict.Fault f a k) = VerdictValues.fault (faultNumber f) a k
+verdictValues (verdict.Refused r) = VerdictValues.refused (refusalNumber r)
 
 -- whether an image is refused, and by which number, or the size of its buffer
 pub data Tried : Type 0 where
@@ -55,14 +55,14 @@ abbrev pub triedOf : ℕ → ℕ → ℕ → ℕ → Tried
 triedOf size len start room = triedBy (sizedOf size) len start room
 
 -- passed or fault as the walks have it
-abbrev pub RightValues : List ℕ → Setup → ℕ → Values → Type 0
-RightValues image su start (Values.passed c) = Right image su start (answer.Passed c)
-RightValues image su start (Values.fault n a k) = Right image su start (answer.Fault n a k)
-RightValues image su start (Values.refused n) = ⊥
+abbrev pub RightValues : List ℕ → Setup → ℕ → VerdictValues → Type 0
+RightValues image su start (VerdictValues.passed c) = Right image su start (answer.Passed c)
+RightValues image su start (VerdictValues.fault n a k) = Right image su start (answer.Fault n a k)
+RightValues image su start (VerdictValues.refused n) = ⊥
 
 -- what is answered for an image, and left of a store s: "A refusal returns its number only and alters nothing"; "after passed or fault
 -- its first 32,768 are zero and the rest as before"
-abbrev pub Judged : Tried → List ℕ → ℕ → List ℕ → List ℕ → Values → Type 0
-Judged (Tried.no n) image start s s′ v = (v ≡ Values.refused n) × (s′ ≡ s)
+abbrev pub Judged : Tried → List ℕ → ℕ → List ℕ → List ℕ → VerdictValues → Type 0
+Judged (Tried.no n) image start s s′ v = (v ≡ VerdictValues.refused n) × (s′ ≡ s)
 Judged (Tried.fine size) image start s s′ v =
     RightValues image (setup size) start v × (s′ ≡ replicate (roomOf size) 0 ++ drop (roomOf size) s)

@@ -18,7 +18,7 @@ ghost use lib.ListN.{length};
 ghost use Rattle.ground_setup.specs.Setup.{sizeOf};
 ghost use Rattle.ground_look.specs.Look.{faultNumber};
 ghost use Rattle.ground_look.specs.declared.Fault.{Fault};
-ghost use Rattle.validator_verdict.specs.Verdict.{valuesOf, triedStore, triedIn, triedOf, Judged};
+ghost use Rattle.validator_verdict.specs.Verdict.{verdictValues, triedStore, triedIn, triedOf, Judged};
 
 // What is answered for an image.
 pub enum Verdict {
@@ -46,7 +46,7 @@ fn fault_of(number: u8) -> Fault
 // The verdict on an image that is not refused by its size or start.
 fn judge(image: &[u8], size: Size, start: usize, store: &mut [u8]) -> Verdict
     requires { ⌜ (start % 2 ≡ 0) × (start < sizeOf size) ⌝ }
-    ensures { λ r. ⌜ Judged (triedStore size (length (now (store .entry)))) (now (image .entry)) start (now (store .entry)) (now (store .exit)) (valuesOf r) ⌝ }
+    ensures { λ r. ⌜ Judged (triedStore size (length (now (store .entry)))) (now (image .entry)) start (now (store .entry)) (now (store .exit)) (verdictValues r) ⌝ }
 {
     let from = places::number_of(size, start, Mode::Idle);
     match search::search(image, Setup { size: size }, from, store) {
@@ -60,7 +60,7 @@ fn judge(image: &[u8], size: Size, start: usize, store: &mut [u8]) -> Verdict
 
 // The verdict on an image in a buffer.
 fn validate_in(image: &[u8], size: Size, start: usize, store: &mut [u8]) -> Verdict
-    ensures { λ r. ⌜ Judged (triedIn size (length (now (image .entry))) start (length (now (store .entry)))) (now (image .entry)) start (now (store .entry)) (now (store .exit)) (valuesOf r) ⌝ }
+    ensures { λ r. ⌜ Judged (triedIn size (length (now (image .entry))) start (length (now (store .entry)))) (now (image .entry)) start (now (store .entry)) (now (store .exit)) (verdictValues r) ⌝ }
 {
     let end = setup::size_of(size);
     if end < image.len() {
@@ -77,7 +77,7 @@ fn validate_in(image: &[u8], size: Size, start: usize, store: &mut [u8]) -> Verd
 
 // The verdict on an image of a buffer of `size` locations, from a start address, in a working store.
 pub fn validate(image: &[u8], size: usize, start: usize, store: &mut [u8]) -> Verdict
-    ensures { λ r. ⌜ Judged (triedOf size (length (now (image .entry))) start (length (now (store .entry)))) (now (image .entry)) start (now (store .entry)) (now (store .exit)) (valuesOf r) ⌝ }
+    ensures { λ r. ⌜ Judged (triedOf size (length (now (image .entry))) start (length (now (store .entry)))) (now (image .entry)) start (now (store .entry)) (now (store .exit)) (verdictValues r) ⌝ }
 {
     match setup::size_from(size) {
         Sized::Of(size) => validate_in(image, size, start, store),

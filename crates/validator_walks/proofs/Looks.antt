@@ -11,9 +11,10 @@ use borrow.Author.Tests.{eqb-true, eqb-false, ltb-true}
 use Rattle.ground_setup.specs.Setup.{sizeOf, wrapOf, aheadOf}
 use Rattle.ground_setup.specs.declared.Setup.{Setup}
 use Rattle.ground_setup.proofs.Laws.{below, wrap-parity}
+use Rattle.ground_words.proofs.Laws.{either-way}
 use Rattle.ground_orders.specs.Orders.{orderOf, findIn, table}
 use Rattle.ground_orders.specs.declared.Mode.{Mode}
-use Rattle.ground_orders.specs.declared.Mode.the-variants.{Idle, Point, Vector, IncrementalPoint, IncrementalVector, Basic, Large}
+use Rattle.ground_orders.specs.declared.Mode.the-variants.{Idle}
 use Rattle.ground_orders.specs.declared.Follows.{Follows}
 use Rattle.ground_orders.specs.declared.Follows.the-variants as follows
 use Rattle.ground_orders.specs.declared.Row.{Row}
@@ -22,8 +23,7 @@ use Rattle.ground_orders.specs.declared.Found.the-variants.{Order, Missing}
 use Rattle.ground_groups.specs.Groups.{groupBy, imageGroup}
 use Rattle.ground_groups.specs.declared.Group.{Group}
 use Rattle.ground_groups.specs.declared.Group.the-variants as group
-use Rattle.ground_look.specs.Look.{orderBy, foundBy, dataBy, firstBy, targetBy, secondBy, lookOf}
-use Rattle.ground_look.specs.declared.Fault.the-variants as fault
+use Rattle.ground_look.specs.Look.{orderBy, foundBy, placing, dataBy, firstBy, targetBy, secondBy, lookOf}
 use Rattle.ground_look.specs.declared.Begun.{Begun}
 use Rattle.ground_look.specs.declared.Begun.the-variants as begun
 use Rattle.ground_look.specs.declared.Look.{Look}
@@ -32,12 +32,7 @@ use Rattle.validator_walks.specs.declared.Place.{Place}
 use Rattle.validator_walks.specs.Places.{place, Proper}
 use Rattle.validator_walks.specs.Steps.{Leads, stepBy}
 
--- what holds of both holds of the one that is taken
-pub cond-all : {A : Type 0} (P : A → Type 0) (b : Bool) (x y : A) → P x → P y → P (cond b x y)
-cond-all P true x y u v = u
-cond-all P false x y u v = v
-
--- the same, each with its test
+-- what holds of each way by its test holds of the one that is taken
 cond-each : {A : Type 0} (P : A → Type 0) (b : Bool) (x y : A) → (b ≡ true → P x) → (b ≡ false → P y) → P (cond b x y)
 cond-each P true x y u v = u refl
 cond-each P false x y u v = v refl
@@ -60,7 +55,7 @@ unfolding findIn allEven
 find-even [] h code = tt
 find-even (r ∷ rs) h code =
     let b = cond-true (eqb (r .length % 2) 0) (allEven rs) h in
-    cond-all Evenly (eqb (r .code) code) (Order r) (findIn rs code) (eqb-true (r .length % 2) 0 (b .0)) (find-even rs (b .1) code)
+    either-way Evenly (eqb (r .code) code) (eqb-true (r .length % 2) 0 (b .0)) (find-even rs (b .1) code)
 
 rows-even : allEven table ≡ true
 unfolding allEven table
@@ -103,20 +98,15 @@ module _ (su : Setup) where
     found-going Missing e = λ q l. absurd l
     found-going (Order r) e = order-going (r .length) e (r .follows)
 
-    data-going : (b c : ℕ) (x : Mode) → m ≡ x → Going m (dataBy (su .size) a b c x)
-    data-going b c Idle e = to-proper _ (ahead-proper a 2 m even refl)
-    data-going b c Point e = ahead-proper a 4 m even refl
-    data-going b c Vector e = ahead-proper a 4 m even refl
-    data-going b c IncrementalPoint e = to-proper _ (ahead-proper a 2 m even refl)
-    data-going b c IncrementalVector e = to-proper _ (ahead-proper a 2 m even refl)
-    data-going b c Basic e = to-proper _ (ahead-proper a 2 m even refl)
-    data-going b c Large e = to-proper _ (ahead-proper a 2 m even refl)
+    data-going : (b c : ℕ) → Going m (dataBy (su .size) a b c m)
+    data-going b c =
+        either-way (Going m) (placing m) (ahead-proper a 4 m even refl) (to-proper _ (ahead-proper a 2 m even refl))
 
     first-going : (g : Group) → Going m (firstBy su a m g)
     first-going group.Unwritten = λ q l. absurd l
     first-going (group.Bad x) = λ q l. absurd l
     first-going (group.Bytes b c) =
-        cond-all (Going m) (eqb b 0x2A) (foundBy su a (orderOf c)) (dataBy (su .size) a b c m) (found-going (orderOf c) (order-even c)) (data-going b c m refl)
+        either-way (Going m) (eqb b 0x2A) (found-going (orderOf c) (order-even c)) (data-going b c)
 
   module _ (m : Mode) where
     target-sound : (may : Bool) (next t : ℕ) → Proper (su .size) (place next Idle) → Sound m (targetBy (su .size) may next t)
@@ -127,7 +117,7 @@ module _ (su : Setup) where
         (λ i.
         let n : ¬ (t % 2 ≡ 1) = eqb-false (t % 2) 1 o in
         let T : Proper (su .size) (place t Idle) = record { even = omega arith; inside = ltb-true t (sizeOf (su .size)) i } in
-        cond-all (Sound m) may (look.Either t next) (look.Jump t)
+        either-way (Sound m) may
         (λ q. ⊎-elim (to-proper _ T q) (to-proper _ P q))
         (to-proper _ T))
         (λ _. λ q l. absurd l))
@@ -140,7 +130,7 @@ module _ (su : Setup) where
     second-sound (begun.Coordinate x y next) G group.Unwritten = λ q l. absurd l
     second-sound (begun.Coordinate x y next) G (group.Bad z) = λ q l. absurd l
     second-sound (begun.Coordinate x y next) G (group.Bytes b c) =
-        cond-all (Sound m) (eqb b 0x2A) _ _ (λ q l. absurd l) (to-proper _ G)
+        either-way (Sound m) (eqb b 0x2A) (λ q l. absurd l) (to-proper _ G)
 
   -- from an even address every look goes on to places of the buffer
   pub look-sound : (fetch : ℕ → Group) (a : ℕ) (m : Mode) → a % 2 ≡ 0 → (q : Place) → Leads (stepBy m (lookOf fetch su a m)) q → Proper (su .size) q
@@ -198,24 +188,18 @@ module _ (su : Setup) (a : ℕ) (m : Mode) where
   found-begins Missing = tt
   found-begins (Order r) = order-begins (r .length) (r .follows)
 
-  data-begins : (b c : ℕ) (x : Mode) → Begins (dataBy (su .size) a b c x)
-  data-begins b c Idle = tt
-  data-begins b c Point = tt
-  data-begins b c Vector = tt
-  data-begins b c IncrementalPoint = tt
-  data-begins b c IncrementalVector = tt
-  data-begins b c Basic = tt
-  data-begins b c Large = tt
+  data-begins : (b c : ℕ) → Begins (dataBy (su .size) a b c m)
+  data-begins b c = either-way Begins (placing m) tt tt
 
   first-begins : (g : Group) → Good g → Begins (firstBy su a m g)
   first-begins group.Unwritten G = tt
   first-begins (group.Bad x) G = absurd G
-  first-begins (group.Bytes b c) G = cond-all Begins (eqb b 0x2A) _ _ (found-begins (orderOf c)) (data-begins b c m)
+  first-begins (group.Bytes b c) G = either-way Begins (eqb b 0x2A) (found-begins (orderOf c)) (data-begins b c)
 
   target-fine : (may : Bool) (next t : ℕ) → Fine (targetBy (su .size) may next t)
   target-fine may next t =
-      cond-all Fine (eqb (t % 2) 1) (look.Fault fault.OddTarget) _ tt
-      (cond-all Fine (ltb t (sizeOf (su .size))) _ (look.Fault fault.FarTarget) (cond-all Fine may (look.Either t next) (look.Jump t) tt tt) tt)
+      either-way Fine (eqb (t % 2) 1) tt
+      (either-way Fine (ltb t (sizeOf (su .size))) (either-way Fine may tt tt) tt)
 
   second-fine : (b : Begun) → Begins b → (g : Group) → Good g → Fine (secondBy (su .size) b g)
   second-fine (begun.Done l) B g G = B
@@ -224,7 +208,7 @@ module _ (su : Setup) (a : ℕ) (m : Mode) where
   second-fine (begun.Target may next) B (group.Bytes b c) G = target-fine may next (b * 0x100 + c)
   second-fine (begun.Coordinate x y next) B group.Unwritten G = tt
   second-fine (begun.Coordinate x y next) B (group.Bad z) G = absurd G
-  second-fine (begun.Coordinate x y next) B (group.Bytes b c) G = cond-all Fine (eqb b 0x2A) (look.Fault fault.OrderForY) (look.Four x y b c next) tt tt
+  second-fine (begun.Coordinate x y next) B (group.Bytes b c) G = either-way Fine (eqb b 0x2A) tt tt
 
 -- no look at an image meets bad parity
 pub no-check : (image : List ℕ) (su : Setup) (a : ℕ) (m : Mode) (at : ℕ) → lookOf (imageGroup image su) su a m ≡ look.Check at → ⊥

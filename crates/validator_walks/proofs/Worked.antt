@@ -19,7 +19,7 @@ use Rattle.validator_walks.specs.declared.Answer.the-variants.{Passed, F
 use Rattle.validator_walks.specs.Places.{place, placesOf, numberOf, placeOf}
 use Rattle.validator_walks.specs.Steps.{Step, Leads, stepOf}
 use Rattle.validator_walks.specs.Walks.{Counted, Reach, Reached, First, Right}
-use Rattle.validator_walks.specs.Starred.{starred, AllRight}
+use Rattle.validator_walks.specs.Starred.{starredCases, AllRight}
 use Rattle.validator_walks.proofs.Numbering.{number-of-place}
 
 -- no fault is met where a step goes on or stops
@@ -52,23 +52,23 @@ module _ {X : Type 0} (step : X → Step X) (start : X) where
         (eq-or-lt-of-le (le-of-suc-le-suc h));
   }
 
-  ends : (address : X → ℕ) (k : ℕ) (p : X) (n : ℕ) → step p ≡ Step.faulty n → Alone k p → First step start address n (address p) k
-  ends address k p n e A = record {
+  ends-first : (address : X → ℕ) (k : ℕ) (p : X) (n : ℕ) → step p ≡ Step.faulty n → Alone k p → First step start address n (address p) k
+  ends-first address k p n e A = record {
     met = p;
     here = A .here;
     faulty = e;
     at = refl;
     earlier = A .before;
-    lowest = λ q m r f. inr (ap address (sym (A .only q r)), same m (sym e ∙ ap step (sym (A .only q r)) ∙ f));
+    lowest = λ q m r f. inr (ap address (sym (A .only q r)), same-fault m (sym e ∙ ap step (sym (A .only q r)) ∙ f));
   }
     where
-      same : (m : ℕ) → _≡_ {A = Step X} (Step.faulty n) (Step.faulty m) → n ≤ m
-      same m c = let s : n ≡ m = cc in omega arith
+      same-fault : (m : ℕ) → _≡_ {A = Step X} (Step.faulty n) (Step.faulty m) → n ≤ m
+      same-fault m c = let s : n ≡ m = cc in omega arith
 
   -- what holds of the start and is kept by every step holds wherever a walk is
-  within : (In : X → Type 0) → In start → ((p : X) → In p → (q : X) → Leads (step p) q → In q) → (k : ℕ) (p : X) → Reach step start k p → In p
-  within In s kept zero p r = subst In (sym r) s
-  within In s kept (suc k) p r = kept (r .0) (within In s kept k (r .0) (r .1)) p (r .2)
+  stays-in : (In : X → Type 0) → In start → ((p : X) → In p → (q : X) → Leads (step p) q → In q) → (k : ℕ) (p : X) → Reach step start k p → In p
+  stays-in In s kept zero p r = subst In (sym r) s
+  stays-in In s kept (suc k) p r = kept (r .0) (stays-in In s kept k (r .0) (r .1)) p (r .2)
 
 -- past n nothing more is counted
 counted-past : {P : ℕ → Type 0} {n c : ℕ} → Counted P n c → (t : ℕ) → n ≤ t → ((i : ℕ) → n ≤ i → i < t → P i → ⊥) → Counted P t c
@@ -97,7 +97,7 @@ module _ (image : List ℕ) where
   passed-one : from4 (idle 0) ≡ Step.to (idle 0) → Right image in4 0 (Passed 1)
   passed-one e =
       let inside : (k : ℕ) (p : Place) → Reach from4 (idle 0) k p → p ≡ idle 0 =
-      within from4 (idle 0) (λ p. p ≡ idle 0) refl (λ p s q l. subst (λ (x : Step Place). Leads x q) (ap from4 s ∙ e) l) in
+      stays-in from4 (idle 0) (λ p. p ≡ idle 0) refl (λ p s q l. subst (λ (x : Step Place). Leads x q) (ap from4 s ∙ e) l) in
       record {
         sound = λ k p n r f. to-calm (idle 0) n (sym e ∙ ap from4 (sym (inside k p r)) ∙ f);
         count = counted-past (Counted.take (0, refl) Counted.none) (placesOf K4) (omega arith)
@@ -115,7 +115,7 @@ module _ (image : List ℕ) where
         i
 
     two-inside : (k : ℕ) (p : Place) → Reach from4 (idle 0) k p → (p ≡ idle 0) ⊎ (p ≡ idle b)
-    two-inside = within from4 (idle 0) (λ p. (p ≡ idle 0) ⊎ (p ≡ idle b)) (inl refl) two-kept
+    two-inside = stays-in from4 (idle 0) (λ p. (p ≡ idle 0) ⊎ (p ≡ idle b)) (inl refl) two-kept
 
     two-numbers : (i : ℕ) → i < placesOf K4 → Reached from4 (idle 0) (placeOf K4 i) → (i ≡ 0) ⊎ (i ≡ numberOf K4 (idle b))
     two-numbers i h r =
@@ -140,16 +140,16 @@ module _ (size : Size) (image : List ℕ) where
 
   -- a fault at the start, and one after a step
   at-once : (n : ℕ) → stepOf image su (idle 0) ≡ Step.faulty n → Right image su 0 (Fault n 0 0)
-  at-once n e = ends (stepOf image su) (idle 0) (λ p. p .at) 0 (idle 0) n e (begin (stepOf image su) (idle 0))
+  at-once n e = ends-first (stepOf image su) (idle 0) (λ p. p .at) 0 (idle 0) n e (begin (stepOf image su) (idle 0))
 
   after-one : (p : Place) (n : ℕ) → stepOf image su (idle 0) ≡ Step.to p → stepOf image su p ≡ Step.faulty n → Right image su 0 (Fault n (p .at) 1)
   after-one p n a e =
-      ends (stepOf image su) (idle 0) (λ p. p .at) 1 p n e (on (stepOf image su) (idle 0) 0 (idle 0) p a (begin (stepOf image su) (idle 0)))
+      ends-first (stepOf image su) (idle 0) (λ p. p .at) 1 p n e (on (stepOf image su) (idle 0) 0 (idle 0) p a (begin (stepOf image su) (idle 0)))
 
   after-three : (p q r : Place) (n : ℕ) → stepOf image su (idle 0) ≡ Step.to p → stepOf image su p ≡ Step.to q → stepOf image su q ≡ Step.to r
       → stepOf image su r ≡ Step.faulty n → Right image su 0 (Fault n (r .at) 3)
   after-three p q r n a b c e =
-      ends (stepOf image su) (idle 0) (λ p. p .at) 3 r n e
+      ends-first (stepOf image su) (idle 0) (λ p. p .at) 3 r n e
       (on (stepOf image su) (idle 0) 2 q r c
       (on (stepOf image su) (idle 0) 1 p q b
       (on (stepOf image su) (idle 0) 0 (idle 0) p a (begin (stepOf image su) (idle 0)))))
@@ -176,7 +176,7 @@ odd-2A-passed =
     (Counted.take (1, (idle 0, refl, refl)) (Counted.take (0, refl) Counted.none))
 
 -- every starred verdict
-pub all-right : AllRight starred
+pub all-right : AllRight starredCases
 unfolding stepOf lookOf imageGroup orderOf findIn table
 all-right = (
   at-once K4 [] 1 refl,

@@ -28,7 +28,9 @@ module _ {X : Type 0} (step : X → Step X) (start : X) where
 
   -- the places are numbered from 0 on
   module _ (numbered : ℕ → X) (places : ℕ) where
-    -- "passed, with the number of different places any walk reaches": no walk, however long, meets a fault
+    -- "passed, with the number of different places any walk reaches": no walk, however long, meets a fault. The numbers below `places` are
+    -- counted, one for each place: of an image every place of the buffer has its number (`place-of-number`) and every number is that of
+    -- its place alone (`number-of-place`, proofs/Numbering)
     pub record Clean (c : ℕ) : Type 0 where
       pub sound : (k : ℕ) (p : X) (n : ℕ) → Reach k p → step p ≡ Step.faulty n → ⊥
       pub count : Counted (λ i. Reached (numbered i)) places c

@@ -1,4 +1,9 @@
-use Rattle.capi_run.specs.Started.{loadedNumber, loadedList}
+use mathlib.Core.Path.{refl, ap, _∙_}
+use denote.Ref.{now}
+use Rattle.device_2250.specs.Device.{unitOf}
+use Rattle.device_2250.specs.declared.Device.{Device}
+use Rattle.capi_run.specs.Started.{startedCall, startsAt}
+use Rattle.capi_run.proofs.Laws.{call-as, loaded-as}
 use borrow.Author.Needs.{needs}
 use Rattle.capi_run.proofs.khaonuat_run.Statement.{statement}
 use Rattle.capi_run.proofs.khaonuat_run.Tie as tie
@@ -25,25 +30,22 @@ run-started-requires : tie.Need-run-started-requires
 run-started-requires c κs = search needs
 
 returns : tie.Need-returns
-unfolding loadedNumber loadedList
 returns c =
-    let l = c .before .before .before .before .before .load .ensures in
-    let f = c .before .before .before .before .before .before .fresh .ensures .0 in
-    let e = c .before .before .answer .given .1 in
-    (simp (← f, ← l, e) (c .refused .ensures), simp (← f, ← l, e))
+    let a = c .before .before .before .before .before .before .before .before .before .before .args in
+    let fresh = c .before .before .before .before .before .before .fresh .ensures .0 in
+    let load = c .before .before .before .before .before .load in
+    call-as (c .refused .ensures) refl ∙ loaded-as (a .size) (now (a .dump)) (a .start) (a .closed) (now (a .sights)) (now (a .items)) (now (a .counts)) (load .result) fresh (load .ensures) (c .before .before .answer .given .1)
 
 same-length : tie.Need-same-length
 same-length c = search needs
 
 returns-2 : tie.Need-returns-2
-unfolding loadedNumber loadedList
 returns-2 c =
-    let l = c .before .before .before .before .before .before .before .before .load .ensures in
-    let f = c .before .before .before .before .before .before .before .before .before .fresh .ensures .0 in
-    let e = c .before .before .before .before .before .enum-told .given .1 in
-    let s = c .before .before .before .before .switch-to .ensures in
-    let k = c .before .before .run-started .ensures in
-    (simp (← f, ← l, e) (simp s at (k .0)), simp (← f, ← l, e) (simp s at (k .1)))
+    let a = c .before .before .before .before .before .before .before .before .before .before .before .before .before .before .args in
+    let fresh = c .before .before .before .before .before .before .before .before .before .before .fresh .ensures .0 in
+    let load = c .before .before .before .before .before .before .before .before .before .load in
+    let switched = ap (λ (d : Device). startedCall (startsAt (unitOf d) (a .start)) (now (a .sights)) (now (a .items)) (now (a .counts))) (c .before .before .before .before .before .switch-to .ensures) in
+    c .before .before .run-started .ensures ∙ switched ∙ loaded-as (a .size) (now (a .dump)) (a .start) (a .closed) (now (a .sights)) (now (a .items)) (now (a .counts)) (load .result) fresh (load .ensures) (c .before .before .before .before .before .before .enum-told .given .1)
 
 pub khaonuat-run-spec : {M : Type 1} → statement M
 khaonuat-run-spec =

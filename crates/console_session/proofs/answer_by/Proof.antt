@@ -3,6 +3,7 @@ use mathlib.Core.Path.{sym, ap, subst, _∙_}
 use Prim.Native.Nat.{ℕ}
 use lib.ListN.{length}
 use denote.Ref.{now}
+use Rattle.device_2250.specs.Device.{unitOf}
 use Rattle.device_2250.specs.declared.Device.{Device}
 use Rattle.console_replies.specs.Replies.{okLine}
 use Rattle.console_script.specs.Script.{restOf}
@@ -148,7 +149,7 @@ returns-2 : tie.Need-returns-2
 returns-2 c =
     let a = c .before .before .before .before .before .before .before .before .before .before .before .args in
     let told = ap (saidBy (a .device) (now (a .line))) (sym (c .before .before .before .before .before .before .before .request2 .given .1)) in
-    speaks-as (load-of-text (a .device) _ (c .before .before .before .before .rest-of2 .ensures ∙ ap restOf (c .before .before .before .before .before .rest-of .ensures)) ∙ told) (c .before .before .load-text .ensures)
+    speaks-as (load-of-text (unitOf (a .device)) _ (c .before .before .before .before .rest-of2 .ensures ∙ ap restOf (c .before .before .before .before .before .rest-of .ensures)) ∙ told) (c .before .before .load-text .ensures)
 
 same-length-3 : tie.Need-same-length-3
 same-length-3 c = search needs
@@ -157,7 +158,7 @@ returns-3 : tie.Need-returns-3
 returns-3 c =
     let a = c .before .before .before .before .before .before .before .before .before .before .before .before .args in
     let told = ap (saidBy (a .device) (now (a .line))) (sym (c .before .before .before .before .before .before .before .before .request3 .given .1)) in
-    speaks-as (command-of-text (a .device) _ _ (c .before .before .before .before .rest-of5 .ensures ∙ ap restOf (c .before .before .before .before .before .rest-of4 .ensures ∙ ap restOf (c .before .before .before .before .before .before .rest-of3 .ensures))) ∙ told) (c .before .before .command-text .ensures)
+    speaks-as (command-of-text (unitOf (a .device)) _ _ (c .before .before .before .before .rest-of5 .ensures ∙ ap restOf (c .before .before .before .before .before .rest-of4 .ensures ∙ ap restOf (c .before .before .before .before .before .before .rest-of3 .ensures))) ∙ told) (c .before .before .command-text .ensures)
 
 same-length-4 : tie.Need-same-length-4
 same-length-4 c = search needs
@@ -193,7 +194,7 @@ returns-7 : tie.Need-returns-7
 returns-7 c =
     let a = c .before .before .before .before .before .before .before .before .before .before .before .args in
     let told = ap (saidBy (a .device) (now (a .line))) (sym (c .before .before .before .before .before .before .before .request4 .given .1)) in
-    speaks-as (run-of-text (a .device) _ (c .before .before .before .before .rest-of7 .ensures ∙ ap restOf (c .before .before .before .before .before .rest-of6 .ensures)) ∙ told) (c .before .before .run-text .ensures)
+    speaks-as (run-of-text (unitOf (a .device)) _ (c .before .before .before .before .rest-of7 .ensures ∙ ap restOf (c .before .before .before .before .before .rest-of6 .ensures)) ∙ told) (c .before .before .run-text .ensures)
 
 same-length-8 : tie.Need-same-length-8
 same-length-8 c = search needs

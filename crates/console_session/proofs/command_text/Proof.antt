@@ -2,6 +2,7 @@ use Prim.Native.Nat.{_/_}
 use native.Mathlib.Omega.{arith}
 use lib.ListN.{length}
 use denote.Ref.{now}
+use Rattle.device_2250.specs.Device.{unitOf}
 use Rattle.console_session.proofs.Laws.{speaks-as, command-as, part-length, part-zero}
 use borrow.Author.Needs.{needs}
 use Rattle.console_session.proofs.command_text.Statement.{statement}
@@ -37,7 +38,7 @@ returns c =
     let text = now (a .text) in
     let sent = part-length 20000 (length text / 2) (omega arith) in
     let room = part-zero 65535 (a .count) (omega arith) in
-    speaks-as (command-as (a .device) (a .code) text sent room)
+    speaks-as (command-as (unitOf (a .device)) (a .code) text sent room)
     (c .before .before .before .before .command-through .ensures)
 
 pub command-text-spec : {M : Type 1} → statement M

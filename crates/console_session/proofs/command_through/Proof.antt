@@ -2,7 +2,8 @@ use mathlib.Core.Path.{ap, _∙_}
 use Prim.Native.Nat.{ℕ}
 use mathlib.Core.List.{List}
 use denote.Ref.{now}
-use Rattle.device_2250.specs.Device.{commandOf}
+use Rattle.unit_commands.specs.Commands.{unitCommand}
+use Rattle.device_2250.specs.Device.{unitOf}
 use Rattle.console_session.specs.Session.{commandSaid}
 use Rattle.console_session.proofs.Laws.{speaks-as}
 use borrow.Author.Needs.{needs}
@@ -30,7 +31,7 @@ same-length-3 c = search needs
 returns : tie.Need-returns
 returns c =
     let a = c .before .before .before .before .before .before .before .before .before .before .before .before .before .before .before .before .before .before .before .args in
-    let command = c .before .before .before .before .before .before .before .before .command .ensures ∙ ap (λ (bytes : List ℕ). commandOf (a .device) (a .code) bytes (now (a .room))) (c .before .before .before .before .before .before .before .before .before .before .before .before .before .read-bytes .ensures) in
+    let command = c .before .before .before .before .before .before .before .before .command .ensures ∙ ap (λ (bytes : List ℕ). unitCommand (unitOf (a .device)) (a .code) bytes (now (a .room))) (c .before .before .before .before .before .before .before .before .before .before .before .before .before .read-bytes .ensures) in
     speaks-as (ap commandSaid command) (c .before .before .replied .ensures)
 
 pub command-through-spec : {M : Type 1} → statement M

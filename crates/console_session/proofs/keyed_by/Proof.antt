@@ -1,4 +1,6 @@
 use mathlib.Core.Path.{sym, ap}
+use Rattle.typing_keys.specs.Keys.{keyValues}
+use Rattle.typing_keys.specs.declared.KeyReply.{KeyReply}
 use Rattle.console_session.specs.Session.{keyTold}
 use Rattle.console_session.proofs.Laws.{speaks-as, spoken}
 use borrow.Author.Needs.{needs}
@@ -29,7 +31,7 @@ same-length c = search needs
 returns : tie.Need-returns
 returns c =
     let a = c .before .before .before .before .before .before .before .before .before .args in
-    speaks-as (ap (keyTold (a .keyed .device)) (sym (c .before .before .before .before .before .answer .given .1))) (c .before .before .refused .ensures)
+    speaks-as (ap (λ (o : KeyReply). keyTold (a .keyed .device) (keyValues o)) (sym (c .before .before .before .before .before .answer .given .1))) (c .before .before .refused .ensures)
 
 same-length-2 : tie.Need-same-length-2
 same-length-2 c = search needs
@@ -37,7 +39,7 @@ same-length-2 c = search needs
 returns-2 : tie.Need-returns-2
 returns-2 c =
     let a = c .before .before .before .before .before .before .before .before .args in
-    speaks-as (ap (keyTold (a .keyed .device)) (sym (c .before .before .before .before .enum-told .given .1))) (spoken _ _ _ _ _ _ (c .before .before .put-heard .ensures))
+    speaks-as (ap (λ (o : KeyReply). keyTold (a .keyed .device) (keyValues o)) (sym (c .before .before .before .before .enum-told .given .1))) (spoken _ _ _ _ _ _ (c .before .before .put-heard .ensures))
 
 same-length-3 : tie.Need-same-length-3
 same-length-3 c = search needs
@@ -45,7 +47,7 @@ same-length-3 c = search needs
 returns-3 : tie.Need-returns-3
 returns-3 c =
     let a = c .before .before .before .before .before .before .before .before .args in
-    speaks-as (ap (keyTold (a .keyed .device)) (sym (c .before .before .before .before .enum-told2 .given .1))) (spoken _ _ _ _ _ _ (c .before .before .put-heard2 .ensures))
+    speaks-as (ap (λ (o : KeyReply). keyTold (a .keyed .device) (keyValues o)) (sym (c .before .before .before .before .enum-told2 .given .1))) (spoken _ _ _ _ _ _ (c .before .before .put-heard2 .ensures))
 
 pub keyed-by-spec : {M : Type 1} → statement M
 keyed-by-spec =

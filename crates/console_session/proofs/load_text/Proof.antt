@@ -3,7 +3,8 @@ use Prim.Native.Nat.{ℕ, _/_}
 use native.Mathlib.Omega.{arith}
 use lib.ListN.{length}
 use denote.Ref.{now}
-use Rattle.device_2250.specs.Device.{loadOf}
+use Rattle.unit_loading.specs.Loading.{unitLoad}
+use Rattle.device_2250.specs.Device.{unitOf}
 use Rattle.console_decode.specs.Decode.{wordsIn}
 use Rattle.console_session.specs.Session.{loadSaid}
 use Rattle.console_session.proofs.Laws.{speaks-as, part-length}
@@ -31,7 +32,7 @@ returns c =
     let a = c .before .before .before .before .before .before .before .before .args in
     let text = now (a .text) in
     let count = part-length 10000 (length text / 4) (omega arith) in
-    speaks-as (ap (λ (n : ℕ). loadSaid (loadOf (a .device) (a .size) (wordsIn text n))) count) (c .before .before .before .load-through .ensures)
+    speaks-as (ap (λ (n : ℕ). loadSaid (unitLoad (unitOf (a .device)) (a .size) (wordsIn text n))) count) (c .before .before .before .load-through .ensures)
 
 pub load-text-spec : {M : Type 1} → statement M
 load-text-spec =

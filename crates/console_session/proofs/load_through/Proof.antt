@@ -1,5 +1,6 @@
 use mathlib.Core.Path.{ap, _∙_}
-use Rattle.device_2250.specs.Device.{loadOf}
+use Rattle.unit_loading.specs.Loading.{unitLoad}
+use Rattle.device_2250.specs.Device.{unitOf}
 use Rattle.console_session.specs.Session.{loadSaid}
 use Rattle.console_session.proofs.Laws.{speaks-as}
 use borrow.Author.Needs.{needs}
@@ -24,7 +25,7 @@ same-length-2 c = search needs
 returns : tie.Need-returns
 returns c =
     let a = c .before .before .before .before .before .before .before .before .before .before .before .before .before .args in
-    let load = c .before .before .before .before .load .ensures ∙ ap (loadOf (a .device) (a .size)) (c .before .before .before .before .before .before .before .before .read-words .ensures) in
+    let load = c .before .before .before .before .load .ensures ∙ ap (unitLoad (unitOf (a .device)) (a .size)) (c .before .before .before .before .before .before .before .before .read-words .ensures) in
     speaks-as (ap loadSaid load) (c .before .before .loaded-by .ensures)
 
 pub load-through-spec : {M : Type 1} → statement M

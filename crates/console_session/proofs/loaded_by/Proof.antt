@@ -1,4 +1,6 @@
 use mathlib.Core.Path.{sym, ap}
+use Rattle.unit_loading.specs.Loading.{loadValues}
+use Rattle.unit_loading.specs.declared.LoadReply.{LoadReply}
 use Rattle.console_session.specs.Session.{loadTold}
 use Rattle.console_session.proofs.Laws.{speaks-as}
 use borrow.Author.Needs.{needs}
@@ -23,7 +25,7 @@ same-length c = search needs
 returns : tie.Need-returns
 returns c =
     let a = c .before .before .before .before .before .before .before .before .args in
-    speaks-as (ap (loadTold (a .loaded .device)) (sym (c .before .before .before .before .enum-told .given .1))) (c .before .before .done .ensures)
+    speaks-as (ap (λ (o : LoadReply). loadTold (a .loaded .device) (loadValues o)) (sym (c .before .before .before .before .enum-told .given .1))) (c .before .before .done .ensures)
 
 same-length-2 : tie.Need-same-length-2
 same-length-2 c = search needs
@@ -31,7 +33,7 @@ same-length-2 c = search needs
 returns-2 : tie.Need-returns-2
 returns-2 c =
     let a = c .before .before .before .before .before .before .before .before .before .args in
-    speaks-as (ap (loadTold (a .loaded .device)) (sym (c .before .before .before .before .before .answer .given .1))) (c .before .before .refused .ensures)
+    speaks-as (ap (λ (o : LoadReply). loadTold (a .loaded .device) (loadValues o)) (sym (c .before .before .before .before .before .answer .given .1))) (c .before .before .refused .ensures)
 
 pub loaded-by-spec : {M : Type 1} → statement M
 loaded-by-spec =

@@ -1,9 +1,10 @@
 use mathlib.Core.Path.{sym, ap}
 use denote.Ref.{now}
 use Rattle.text_put.proofs.Laws.{behind}
+use Rattle.unit_run.specs.Run.{runValues}
 use Rattle.unit_run.specs.declared.RunReply.{RunReply}
-use Rattle.console_session.specs.Session.{ranTold}
-use Rattle.console_session.proofs.Laws.{speaks-as, spoken, ran-end}
+use Rattle.console_session.specs.Session.{runTold}
+use Rattle.console_session.proofs.Laws.{speaks-as, spoken, run-end}
 use borrow.Author.Needs.{needs}
 use Rattle.console_session.proofs.ran_by.Statement.{statement}
 use Rattle.console_session.proofs.ran_by.Tie as tie
@@ -36,7 +37,7 @@ returns c =
     let put = behind _ _ _ _ _ _ _ _ (c .before .before .before .before .before .before .put-ran .ensures) (c .before .before .put-items .ensures) in
     let answer = c .before .before .before .before .before .before .before .before .before .before .answer in
     let why = c .before .before .before .before .before .before .before .before .end-number .ensures .0 in
-    speaks-as (ran-end (a .ran .device) list (answer .given .1) why) (spoken _ _ _ _ _ _ put)
+    speaks-as (run-end (a .ran .device) list (answer .given .1) why) (spoken _ _ _ _ _ _ put)
 
 same-length-2 : tie.Need-same-length-2
 same-length-2 c = search needs
@@ -44,7 +45,7 @@ same-length-2 c = search needs
 returns-2 : tie.Need-returns-2
 returns-2 c =
     let a = c .before .before .before .before .before .before .before .before .before .before .args in
-    speaks-as (ap (λ (o : RunReply). ranTold (a .ran .device) o (now (a .list))) (sym (c .before .before .before .before .before .answer2 .given .1))) (c .before .before .refused .ensures)
+    speaks-as (ap (λ (o : RunReply). runTold (a .ran .device) (runValues o) (now (a .list))) (sym (c .before .before .before .before .before .answer2 .given .1))) (c .before .before .refused .ensures)
 
 pub ran-by-spec : {M : Type 1} → statement M
 ran-by-spec =

@@ -1,5 +1,6 @@
 use mathlib.Core.Path.{sym, ap}
-use Rattle.console_session.specs.Session.{replySaid}
+use Rattle.unit_commands.specs.Commands.{commandValues}
+use Rattle.console_session.specs.Session.{commandTold}
 use Rattle.console_session.proofs.Laws.{speaks-as, spoken}
 use denote.Ref.{now}
 use Rattle.unit_commands.specs.declared.Reply.{Reply}
@@ -25,7 +26,7 @@ same-length c = search needs
 returns : tie.Need-returns
 returns c =
     let a = c .before .before .before .before .before .before .before .before .before .args in
-    speaks-as (ap (λ (r : Reply). replySaid (a .device) r (now (a .room))) (sym (c .before .before .before .before .before .reply .given .1))) (spoken _ _ _ _ _ _ (c .before .before .put-status .ensures))
+    speaks-as (ap (λ (r : Reply). commandTold (a .device) (commandValues r) (now (a .room))) (sym (c .before .before .before .before .before .reply .given .1))) (spoken _ _ _ _ _ _ (c .before .before .put-status .ensures))
 
 same-length-2 : tie.Need-same-length-2
 same-length-2 c = search needs
@@ -33,7 +34,7 @@ same-length-2 c = search needs
 returns-2 : tie.Need-returns-2
 returns-2 c =
     let a = c .before .before .before .before .before .before .before .before .before .args in
-    speaks-as (ap (λ (r : Reply). replySaid (a .device) r (now (a .room))) (sym (c .before .before .before .before .before .reply2 .given .1))) (c .before .before .refused .ensures)
+    speaks-as (ap (λ (r : Reply). commandTold (a .device) (commandValues r) (now (a .room))) (sym (c .before .before .before .before .before .reply2 .given .1))) (c .before .before .refused .ensures)
 
 pub replied-spec : {M : Type 1} → statement M
 replied-spec =

@@ -2,6 +2,7 @@ use Prim.Native.Nat.{_*_}
 use native.Mathlib.Omega.{arith}
 use lib.ListN.{length}
 use denote.Ref.{now}
+use Rattle.device_2250.specs.Device.{unitOf}
 use Rattle.console_session.proofs.Laws.{speaks-as, run-as, part-length, part-zero}
 use borrow.Author.Needs.{needs}
 use Rattle.console_session.proofs.run_text.Statement.{statement}
@@ -40,7 +41,7 @@ returns c =
     let text = now (a .text) in
     let steps = part-length 40000 (length text) (omega arith) in
     let list = part-zero 32768 (8 * a .room) (omega arith) in
-    speaks-as (run-as (a .device) text steps list)
+    speaks-as (run-as (unitOf (a .device)) text steps list)
     (c .before .before .before .before .run-through .ensures)
 
 pub run-text-spec : {M : Type 1} → statement M

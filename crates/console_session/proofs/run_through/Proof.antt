@@ -2,8 +2,10 @@ use mathlib.Core.Path.{ap, _∙_}
 use Prim.Native.Nat.{ℕ}
 use mathlib.Core.List.{List}
 use denote.Ref.{now}
-use Rattle.console_session.specs.Session.{Said, runSaid}
-use Rattle.console_session.proofs.Laws.{speaks-as, ran-as}
+use Rattle.unit_run.specs.Run.{unitRun}
+use Rattle.device_2250.specs.Device.{unitOf}
+use Rattle.console_session.specs.Session.{runSaid}
+use Rattle.console_session.proofs.Laws.{speaks-as}
 use borrow.Author.Needs.{needs}
 use Rattle.console_session.proofs.run_through.Statement.{statement}
 use Rattle.console_session.proofs.run_through.Tie as tie
@@ -31,8 +33,7 @@ returns c =
     let a = c .before .before .before .before .before .before .before .before .before .before .before .before .before .before .before .before .before .before .args in
     let read = c .before .before .before .before .before .before .before .before .before .before .before .before .read-sights .ensures in
     let ran = c .before .before .before .before .before .before .before .run .ensures in
-    let sights : List ℕ → Said = λ s. runSaid (a .device) s (now (a .list)) in
-    speaks-as (ran-as (ran .0) (ran .1) ∙ ap sights read) (c .before .before .ran-by .ensures)
+    speaks-as (ap runSaid (ran ∙ ap (λ (s : List ℕ). unitRun (unitOf (a .device)) s (now (a .list))) read)) (c .before .before .ran-by .ensures)
 
 pub run-through-spec : {M : Type 1} → statement M
 run-through-spec =

@@ -1,5 +1,3 @@
-use mathlib.Core.Path.{ap}
-use Rattle.device_2250.specs.Device.{commandOf, outcomeBy}
 use borrow.Author.Needs.{needs}
 use Rattle.device_2250.proofs.command.Statement.{statement}
 use Rattle.device_2250.proofs.command.Tie as tie
@@ -11,8 +9,7 @@ same-length : tie.Need-same-length
 same-length c = search needs
 
 returns : tie.Need-returns
-unfolding commandOf
-returns c = ap outcomeBy (c .before .before .before .command-array .ensures)
+returns c = c .before .before .before .command-array .ensures
 
 pub command-spec : {M : Type 1} → statement M
 command-spec = tie.close (tie.spec command-array-requires same-length returns)

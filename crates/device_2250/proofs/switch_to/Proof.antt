@@ -1,4 +1,3 @@
-use Rattle.device_2250.specs.Device.{switchedOf}
 use borrow.Author.Needs.{needs}
 use Rattle.device_2250.proofs.switch_to.Statement.{statement}
 use Rattle.device_2250.proofs.switch_to.Tie as tie
@@ -7,7 +6,6 @@ switch-head-requires : tie.Need-switch-head-requires
 switch-head-requires c κs = search needs
 
 returns : tie.Need-returns
-unfolding switchedOf
 returns c = rw (c .switch-head .ensures)
 
 pub switch-to-spec : {M : Type 1} → statement M

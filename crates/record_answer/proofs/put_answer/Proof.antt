@@ -2,7 +2,7 @@ use borrow.Author.Needs.{needs}
 use mathlib.Core.List.{List}
 use Prim.Native.Nat.{ℕ}
 use lib.ListN.{length}
-use Rattle.validator_verdict.specs.Verdict.{valuesOf, triedOf, Judged}
+use Rattle.validator_verdict.specs.Verdict.{verdictValues, triedOf, Judged}
 use denote.Ref.{now}
 use mathlib.Core.Path.{refl, sym, ap, subst, _∙_}
 use Rattle.record_lines.specs.Lines.{refusedLine}
@@ -67,7 +67,7 @@ returns-2 c =
     let told = c .before .before .before .before .before .before .before .before .before .before .size .given in
     let read = c .before .before .before .before .before .before .before .before .before .before .before .before .read-payload .ensures in
     let a = c .before .before .before .before .before .before .before .before .before .before .before .before .before .before .before .before .args in
-    let values = valuesOf (verdict .result) in
+    let values = verdictValues (verdict .result) in
     answered-as (sym (told .1) ∙ read)
     (record {
       line = verdictLine (a .number) values;

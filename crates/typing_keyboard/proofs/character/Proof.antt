@@ -3,8 +3,8 @@ use borrow.Author.Needs.{needs}
 use Rattle.typing_keyboard.proofs.character.Statement.{statement}
 use Rattle.typing_keyboard.proofs.character.Tie as tie
 
-forward-requires : tie.Need-forward-requires
-forward-requires c κs = search needs
+go-requires : tie.Need-go-requires
+go-requires c κs = search needs
 
 line-at-requires : tie.Need-line-at-requires
 line-at-requires c κs = search needs
@@ -17,17 +17,17 @@ store-by-requires c κs = search needs
 
 returns : tie.Need-returns
 unfolding characterOf
-returns c = simp (← c .before .before .line-at .ensures, c .before .if1 .taken) (simp (c .before .before .before .forward .ensures) at (c .move-by .ensures))
+returns c = simp (← c .before .before .line-at .ensures, c .before .if1 .taken) (simp (c .before .before .before .go .ensures) at (c .move-by .ensures))
 
 returns-2 : tie.Need-returns-2
 unfolding characterOf
-returns-2 c = simp (← c .before .before .line-at .ensures, c .before .if1 .left) (simp (c .before .before .before .forward .ensures) at (c .store-by .ensures))
+returns-2 c = simp (← c .before .before .line-at .ensures, c .before .if1 .left) (simp (c .before .before .before .go .ensures) at (c .store-by .ensures))
 
 pub character-spec : {M : Type 1} → statement M
 character-spec =
     tie.close
     (tie.spec
-    forward-requires
+    go-requires
     line-at-requires
     move-by-requires
     store-by-requires

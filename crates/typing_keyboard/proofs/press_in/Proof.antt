@@ -11,8 +11,8 @@ character-requires c κs = search needs
 enum-told : tie.Need-enum-told
 enum-told c = search needs
 
-forward-requires : tie.Need-forward-requires
-forward-requires c κs = search needs
+go-requires : tie.Need-go-requires
+go-requires c κs = search needs
 
 move-by-requires : tie.Need-move-by-requires
 move-by-requires c κs = search needs
@@ -20,8 +20,8 @@ move-by-requires c κs = search needs
 enum-told-2 : tie.Need-enum-told-2
 enum-told-2 c = search needs
 
-backward-requires : tie.Need-backward-requires
-backward-requires c κs = search needs
+go-requires-2 : tie.Need-go-requires-2
+go-requires-2 c κs = search needs
 
 move-by-requires-2 : tie.Need-move-by-requires-2
 move-by-requires-2 c κs = search needs
@@ -42,10 +42,10 @@ returns-2 : tie.Need-returns-2
 returns-2 c = simp (c .before .before .before .press .given .1, c .before .if1 .left) (c .character .ensures)
 
 returns-3 : tie.Need-returns-3
-returns-3 c = simp (c .before .before .enum-told .given .1) (simp (c .before .forward .ensures) at (c .move-by .ensures))
+returns-3 c = simp (c .before .before .enum-told .given .1) (simp (c .before .go .ensures) at (c .move-by .ensures))
 
 returns-4 : tie.Need-returns-4
-returns-4 c = simp (c .before .before .enum-told2 .given .1) (simp (c .before .backward .ensures) at (c .move-by2 .ensures))
+returns-4 c = simp (c .before .before .enum-told2 .given .1) (simp (c .before .go2 .ensures) at (c .move-by2 .ensures))
 
 returns-5 : tie.Need-returns-5
 returns-5 c = simp (c .before .before .enum-told3 .given .1) (simp (c .before .jump-to .ensures) at (c .move-by3 .ensures))
@@ -57,10 +57,10 @@ press-in-spec =
     enum-known-press
     character-requires
     enum-told
-    forward-requires
+    go-requires
     move-by-requires
     enum-told-2
-    backward-requires
+    go-requires-2
     move-by-requires-2
     enum-told-3
     jump-to-requires

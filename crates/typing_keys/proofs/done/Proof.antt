@@ -3,7 +3,7 @@ use mathlib.Core.Bool.{true, false}
 use denote.Ref.{now}
 use Rattle.unit_cursor.specs.Cursor.{Buffer}
 use Rattle.unit_head.specs.Head.{unit}
-use Rattle.typing_keys.specs.Keys.{heard}
+use Rattle.typing_keys.specs.Keys.{heardIn}
 use borrow.Author.Needs.{needs}
 use Rattle.typing_keys.proofs.done.Statement.{statement}
 use Rattle.typing_keys.proofs.done.Tie as tie
@@ -40,14 +40,14 @@ same-length c = search needs
 
 returns-2 : tie.Need-returns-2
 returns-2 c = let u = unit (now (c .before .before .before .before .before .before .before .before .before .before .before .before .args .words)) (c .before .before .before .before .before .before .before .before .before .before .before .before .args .head) in
-    simp (c .before .before .before .before .before .before .act .given .1, c .answer2 .ensures) (ap (λ (x : Buffer). heard u x false (c .before .before .before .before .before .before .act .given .0 .0)) (c .before .before .before .move-cursor .ensures))
+    simp (c .before .before .before .before .before .before .act .given .1, c .answer2 .ensures) (ap (λ (x : Buffer). heardIn u x false (c .before .before .before .before .before .before .act .given .0 .0)) (c .before .before .before .move-cursor .ensures))
 
 same-length-2 : tie.Need-same-length-2
 same-length-2 c = search needs
 
 returns-3 : tie.Need-returns-3
 returns-3 c = let u = unit (now (c .before .before .before .before .before .before .before .before .before .before .before .before .args .words)) (c .before .before .before .before .before .before .before .before .before .before .before .before .args .head) in
-    simp (c .before .before .before .before .before .before .act2 .given .1, c .answer3 .ensures) (ap (λ (x : Buffer). heard u x true (c .before .before .before .before .before .before .act2 .given .0 .1 .0)) (c .before .before .before .store-character .ensures))
+    simp (c .before .before .before .before .before .before .act2 .given .1, c .answer3 .ensures) (ap (λ (x : Buffer). heardIn u x true (c .before .before .before .before .before .before .act2 .given .0 .1 .0)) (c .before .before .before .store-character .ensures))
 
 pub done-spec : {M : Type 1} → statement M
 done-spec =

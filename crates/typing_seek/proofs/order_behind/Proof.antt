@@ -12,13 +12,13 @@ back-requires c κs = search needs
 size-of-requires : tie.Need-size-of-requires
 size-of-requires c κs = search needs
 
-seek-requires : tie.Need-seek-requires
-seek-requires c κs = search needs
+order-from-requires : tie.Need-order-from-requires
+order-from-requires c κs = search needs
 
 returns : tie.Need-returns
 unfolding orderBehind
-returns c = simp (c .before .size-of .ensures .0, c .before .before .back .ensures, c .before .before .before .even .ensures) at (c .seek .ensures)
+returns c = simp (c .before .size-of .ensures .0, c .before .before .back .ensures, c .before .before .before .even .ensures) at (c .order-from .ensures)
 
 pub order-behind-spec : {M : Type 1} → statement M
 order-behind-spec =
-    tie.close (tie.spec even-requires back-requires size-of-requires seek-requires returns)
+    tie.close (tie.spec even-requires back-requires size-of-requires order-from-requires returns)

@@ -6,7 +6,6 @@ use mathlib.Core.Path.{_≡_, refl, sym, _∙_}
 use mathlib.Core.Bool.{Bool}
 use mathlib.Core.List.{List, _++_}
 use lib.ListN.{length, take, drop, length-set}
-use Rattle.ground_setup.specs.Setup.{Inside}
 use Rattle.ground_setup.specs.declared.Size.{Size}
 use Rattle.unit_cursor.specs.Cursor.{Buffer, buffer}
 use Rattle.unit_buffer.specs.Buffer.{roomRead, readOf, givenFrom, readFrom}
@@ -17,7 +16,6 @@ use Rattle.unit_buffer.proofs.read_out.Tie as tie
 -- What was given before index i and what is left from it on are the whole read.
 record Reading (b : Buffer) (s : Size) (seek : Bool) (start : ℕ) (room₀ room : List ℕ) (a i : ℕ) : Type 0 where
   within : i ≤ length room
-  low : Inside s a
   long : length room ≡ length room₀
   given-left : roomRead b s seek start room₀ ≡ take i room ++ givenFrom b s seek a (drop i room)
   read-left : readOf b s seek start room₀ ≡ readFrom b s seek a i (drop i room)
@@ -34,7 +32,6 @@ wrap-requires c κs = search needs
 loop-holds : tie.Need-loop-holds Inv-loop μ-loop
 loop-holds c = record {
   within = omega arith;
-  low = c .wrap .ensures .1;
   long = refl;
   given-left = rw (c .wrap .ensures .0);
   read-left = rw (c .wrap .ensures .0);
@@ -59,7 +56,7 @@ goes-on-requires : tie.Need-goes-on-requires Inv-loop μ-loop
 goes-on-requires c κs = search needs
 
 ended-requires : tie.Need-ended-requires Inv-loop μ-loop
-ended-requires c κs = c .before .before .before .before .before .before .loop .inv .low
+ended-requires c κs = search needs
 
 same-length : tie.Need-same-length Inv-loop μ-loop
 same-length c = simp length-set (c .before .before .before .before .before .before .before .loop .inv .long)
@@ -76,11 +73,8 @@ returns c = let at = c .before .before .before .before .before .before .before i
       rw given (sym (at .loop .inv .given-left ∙ given-last _ _ _ _ _ _ h no)),
     )
 
-add-wrap : tie.Need-add-wrap Inv-loop μ-loop
-add-wrap c = omega (arith, c .before .before .before .before .before .before .loop .inv .low)
-
-wrap-requires-2 : tie.Need-wrap-requires-2 Inv-loop μ-loop
-wrap-requires-2 c κs = search needs
+ahead-requires : tie.Need-ahead-requires Inv-loop μ-loop
+ahead-requires c κs = search needs
 
 loop-less : tie.Need-loop-less Inv-loop μ-loop
 loop-less c = simp length-set (omega arith)
@@ -95,10 +89,9 @@ loop-again c = let at = c .before .before .before .before .before .before .befor
     let yes = sym goes ∙ not-false _ (c .before .if1 .left) in
     record {
       within = simp length-set (omega arith);
-      low = c .wrap2 .ensures .1;
       long = simp length-set (at .loop .inv .long);
-      given-left = rw (c .wrap2 .ensures .0, given) (at .loop .inv .given-left ∙ given-on _ _ _ _ _ _ h yes);
-      read-left = rw (c .wrap2 .ensures .0, given) (at .loop .inv .read-left ∙ read-on _ _ _ _ _ _ h yes);
+      given-left = rw (c .ahead .ensures .0, given) (at .loop .inv .given-left ∙ given-on _ _ _ _ _ _ h yes);
+      read-left = rw (c .ahead .ensures .0, given) (at .loop .inv .read-left ∙ read-on _ _ _ _ _ _ h yes);
     }
 
 same-length-2 : tie.Need-same-length-2 Inv-loop μ-loop
@@ -127,8 +120,7 @@ read-out-spec =
     ended-requires
     same-length
     returns
-    add-wrap
-    wrap-requires-2
+    ahead-requires
     loop-less
     loop-again
     same-length-2

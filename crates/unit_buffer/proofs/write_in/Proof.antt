@@ -14,7 +14,6 @@ use Rattle.unit_buffer.proofs.write_in.Tie as tie
 -- What is left to write from index i on gives the whole write.
 record Writing (b₀ : Buffer) (s : Size) (start : ℕ) (bytes : List ℕ) (b : Buffer) (a i : ℕ) : Type 0 where
   within : i ≤ length bytes
-  low : a < 0x8000
   long : length (b .words) ≡ length (b₀ .words)
   left : bytesWritten s start bytes b₀ ≡ writtenFrom s a (drop i bytes) b
 
@@ -28,7 +27,7 @@ wrap-requires : tie.Need-wrap-requires Inv-loop μ-loop
 wrap-requires c κs = search needs
 
 loop-holds : tie.Need-loop-holds Inv-loop μ-loop
-loop-holds c = record { within = omega arith; low = omega arith; long = refl; left = rw (c .wrap .ensures .0) }
+loop-holds c = record { within = omega arith; long = refl; left = rw (c .wrap .ensures .0) }
 
 shared-slice-read-word-of : tie.Need-shared-slice-read-word-of Inv-loop μ-loop
 shared-slice-read-word-of c = omega arith
@@ -39,11 +38,8 @@ word-of-requires c κs = search needs
 store-requires : tie.Need-store-requires Inv-loop μ-loop
 store-requires c κs = search needs
 
-add-wrap : tie.Need-add-wrap Inv-loop μ-loop
-add-wrap c = omega arith
-
-wrap-requires-2 : tie.Need-wrap-requires-2 Inv-loop μ-loop
-wrap-requires-2 c κs = search needs
+ahead-requires : tie.Need-ahead-requires Inv-loop μ-loop
+ahead-requires c κs = search needs
 
 add-i : tie.Need-add-i Inv-loop μ-loop
 add-i c = omega arith
@@ -59,9 +55,8 @@ loop-again c = let at = c .before .before .before .before .before .before .befor
     let store = simp (c .before .before .before .before .word-of .ensures) at (c .before .before .before .store .ensures) in
     record {
       within = omega arith;
-      low = omega arith;
       long = write-long (start .size) (at .loop .a) (start .bytes .now) (at .loop .i) before _ store ∙ at .loop .inv .long;
-      left = rw (c .wrap2 .ensures .0) (at .loop .inv .left ∙ write-one (start .size) (at .loop .a) (start .bytes .now) (at .loop .i) before h _ store);
+      left = rw (c .ahead .ensures .0) (at .loop .inv .left ∙ write-one (start .size) (at .loop .a) (start .bytes .now) (at .loop .i) before h _ store);
     }
 
 same-length : tie.Need-same-length Inv-loop μ-loop
@@ -84,8 +79,7 @@ write-in-spec =
     shared-slice-read-word-of
     word-of-requires
     store-requires
-    add-wrap
-    wrap-requires-2
+    ahead-requires
     add-i
     loop-less
     loop-again

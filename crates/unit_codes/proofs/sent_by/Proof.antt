@@ -14,29 +14,26 @@ enum-told-2 c = search needs
 enum-told-3 : tie.Need-enum-told-3
 enum-told-3 c = search needs
 
+address-in-requires : tie.Need-address-in-requires
+address-in-requires c κs = search needs
+
+near-fit-requires : tie.Need-near-fit-requires
+near-fit-requires c κs = search needs
+
 count-fit-requires-2 : tie.Need-count-fit-requires-2
 count-fit-requires-2 c κs = search needs
 
 enum-told-4 : tie.Need-enum-told-4
 enum-told-4 c = search needs
 
-address-in-requires : tie.Need-address-in-requires
-address-in-requires c κs = search needs
+address-in-requires-2 : tie.Need-address-in-requires-2
+address-in-requires-2 c κs = search needs
 
-address-fit-requires : tie.Need-address-fit-requires
-address-fit-requires c κs = search needs
+start-fit-requires : tie.Need-start-fit-requires
+start-fit-requires c κs = search needs
 
 count-fit-requires-3 : tie.Need-count-fit-requires-3
 count-fit-requires-3 c κs = search needs
-
-enum-told-5 : tie.Need-enum-told-5
-enum-told-5 c = search needs
-
-count-fit-requires-4 : tie.Need-count-fit-requires-4
-count-fit-requires-4 c κs = search needs
-
-enum-told-6 : tie.Need-enum-told-6
-enum-told-6 c = search needs
 
 returns : tie.Need-returns
 returns c = simp (c .before .enum-told .given .1) (c .count-fit .ensures)
@@ -45,16 +42,10 @@ returns-2 : tie.Need-returns-2
 returns-2 c = search needs
 
 returns-3 : tie.Need-returns-3
-returns-3 c = simp (c .before .enum-told3 .given .1) (c .count-fit2 .ensures)
+returns-3 c = simp (c .before .before .before .enum-told3 .given .1) (simp (c .before .near-fit .ensures, c .before .before .address-in .ensures .0) at (c .count-fit2 .ensures))
 
 returns-4 : tie.Need-returns-4
-returns-4 c = simp (c .before .before .before .enum-told4 .given .1) (simp (c .before .address-fit .ensures, c .before .before .address-in .ensures .0) at (c .count-fit3 .ensures))
-
-returns-5 : tie.Need-returns-5
-returns-5 c = simp (c .before .enum-told5 .given .1) (c .count-fit4 .ensures)
-
-returns-6 : tie.Need-returns-6
-returns-6 c = search needs
+returns-4 c = simp (c .before .before .before .enum-told4 .given .1) (simp (c .before .start-fit .ensures, c .before .before .address-in2 .ensures .0) at (c .count-fit3 .ensures))
 
 pub sent-by-spec : {M : Type 1} → statement M
 sent-by-spec =
@@ -64,17 +55,14 @@ sent-by-spec =
     count-fit-requires
     enum-told-2
     enum-told-3
+    address-in-requires
+    near-fit-requires
     count-fit-requires-2
     enum-told-4
-    address-in-requires
-    address-fit-requires
+    address-in-requires-2
+    start-fit-requires
     count-fit-requires-3
-    enum-told-5
-    count-fit-requires-4
-    enum-told-6
     returns
     returns-2
     returns-3
-    returns-4
-    returns-5
-    returns-6)
+    returns-4)

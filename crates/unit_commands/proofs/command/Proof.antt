@@ -3,8 +3,8 @@ use borrow.Author.Needs.{needs}
 use Rattle.unit_commands.proofs.command.Statement.{statement}
 use Rattle.unit_commands.proofs.command.Tie as tie
 
-class-of-requires : tie.Need-class-of-requires
-class-of-requires c κs = search needs
+row-of-requires : tie.Need-row-of-requires
+row-of-requires c κs = search needs
 
 sent-by-requires : tie.Need-sent-by-requires
 sent-by-requires c κs = search needs
@@ -20,7 +20,7 @@ tried-requires c κs = search needs
 
 returns : tie.Need-returns
 unfolding unitCommand
-returns c = simp (← c .before .before .before .before .class-of .ensures, ← c .before .before .before .sent-by .ensures, c .before .refusal .given .1)
+returns c = simp (← c .before .before .before .before .row-of .ensures, ← c .before .before .before .sent-by .ensures, c .before .refusal .given .1)
 
 same-length : tie.Need-same-length
 same-length c = search needs
@@ -30,13 +30,13 @@ same-length-2 c = search needs
 
 returns-2 : tie.Need-returns-2
 unfolding unitCommand
-returns-2 c = simp (← c .before .before .before .before .before .before .before .before .before .before .class-of .ensures, ← c .before .before .before .before .before .before .before .before .before .sent-by .ensures, c .before .before .before .before .before .before .before .enum-told .given .1) (c .before .before .before .before .tried .ensures)
+returns-2 c = simp (← c .before .before .before .before .before .before .before .before .before .before .row-of .ensures, ← c .before .before .before .before .before .before .before .before .before .sent-by .ensures, c .before .before .before .before .before .before .before .enum-told .given .1) (c .before .before .before .before .tried .ensures)
 
 pub command-spec : {M : Type 1} → statement M
 command-spec =
     tie.close
     (tie.spec
-    class-of-requires
+    row-of-requires
     sent-by-requires
     enum-known-refusal
     enum-told

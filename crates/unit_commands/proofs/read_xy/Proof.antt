@@ -24,7 +24,7 @@ same-length : tie.Need-same-length
 same-length c = search needs
 
 returns : tie.Need-returns
-returns c = simp (c .answer .ensures, c .before .before .before .give .ensures .0, c .before .before .before .give .ensures .1, c .before .before .before .before .low-byte2 .ensures, c .before .before .before .before .before .high-byte2 .ensures, c .before .before .before .before .before .before .low-byte .ensures, c .before .before .before .before .before .before .before .high-byte .ensures)
+returns c = λ words. simp (c .answer .ensures, c .before .before .before .give .ensures .0, c .before .before .before .give .ensures .1, c .before .before .before .before .low-byte2 .ensures, c .before .before .before .before .before .high-byte2 .ensures, c .before .before .before .before .before .before .low-byte .ensures, c .before .before .before .before .before .before .before .high-byte .ensures)
 
 pub read-xy-spec : {M : Type 1} → statement M
 read-xy-spec =

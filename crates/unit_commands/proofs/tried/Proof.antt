@@ -1,5 +1,5 @@
-use borrow.Author.Tests.{eq-eqb, ne-eqb}
 use Rattle.unit_commands.specs.Commands.{triedCommand}
+use borrow.Author.Tests.{eq-eqb, ne-eqb}
 use borrow.Author.Needs.{needs}
 use Rattle.unit_commands.proofs.tried.Statement.{statement}
 use Rattle.unit_commands.proofs.tried.Tie as tie
@@ -9,7 +9,7 @@ waiting-requires c κs = search needs
 
 returns : tie.Need-returns
 unfolding triedCommand
-returns c = simp (ne-eqb _ _ (c .before .if1 .taken), c .waiting .ensures)
+returns c = simp (ne-eqb _ _ (c .before .if1 .taken)) (c .waiting .ensures _ _)
 
 is-allowed-requires : tie.Need-is-allowed-requires
 is-allowed-requires c κs = search needs
@@ -32,7 +32,7 @@ returns-2 c = simp (eq-eqb _ _ (c .before .before .before .before .before .befor
 
 returns-3 : tie.Need-returns-3
 unfolding triedCommand
-returns-3 c = simp (eq-eqb _ _ (c .before .before .before .if1 .left), ← c .before .before .is-allowed .ensures, c .before .if2 .left, c .rejected .ensures)
+returns-3 c = simp (eq-eqb _ _ (c .before .before .before .if1 .left), ← c .before .before .is-allowed .ensures, c .before .if2 .left) (c .rejected .ensures _ _)
 
 pub tried-spec : {M : Type 1} → statement M
 tried-spec =

@@ -9,7 +9,7 @@ answer-requires : tie.Need-answer-requires
 answer-requires c κs = search needs
 
 returns : tie.Need-returns
-returns c = simp (c .before .waiting-status .ensures) at (c .answer .ensures)
+returns c = λ words room. simp (c .before .waiting-status .ensures) at (c .answer .ensures words room)
 
 pub waiting-spec : {M : Type 1} → statement M
 waiting-spec = tie.close (tie.spec waiting-status-requires answer-requires returns)

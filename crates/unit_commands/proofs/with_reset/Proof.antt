@@ -2,11 +2,11 @@ use borrow.Author.Needs.{needs}
 use Rattle.unit_commands.proofs.with_reset.Statement.{statement}
 use Rattle.unit_commands.proofs.with_reset.Tie as tie
 
-only-requires : tie.Need-only-requires
-only-requires c κs = search needs
+bits-requires : tie.Need-bits-requires
+bits-requires c κs = search needs
 
 returns : tie.Need-returns
-returns c = simp (c .only .ensures)
+returns c = simp (c .bits .ensures)
 
 pub with-reset-spec : {M : Type 1} → statement M
-with-reset-spec = tie.close (tie.spec only-requires returns)
+with-reset-spec = tie.close (tie.spec bits-requires returns)

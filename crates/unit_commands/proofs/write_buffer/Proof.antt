@@ -1,5 +1,8 @@
-use mathlib.Core.Path.{ap}
-use Rattle.unit_commands.specs.Commands.{writtenWith}
+use Rattle.unit_commands.specs.Commands.{ends, wroteIn}
+use Rattle.unit_head.specs.Head.{unit}
+use Rattle.unit_buffer.specs.Buffer.{Wrote}
+use denote.Ref.{now}
+use mathlib.Core.Path.{_∙_, ap}
 use borrow.Author.Needs.{needs}
 use Rattle.unit_commands.proofs.write_buffer.Statement.{statement}
 use Rattle.unit_commands.proofs.write_buffer.Tie as tie
@@ -17,7 +20,7 @@ same-length : tie.Need-same-length
 same-length c = search needs
 
 returns : tie.Need-returns
-returns c = simp (c .answer .ensures, c .before .with-address .ensures) (ap (writtenWith (c .before .before .before .before .before .before .before .before .before .before .before .before .args .head)) (c .before .before .before .before .before .write-in .ensures))
+returns c = λ room. c .answer .ensures _ room ∙ simp (c .before .with-address .ensures) (ap (λ (w : Wrote). ends (wroteIn (unit (now (c .before .before .before .before .before .before .before .before .before .before .before .before .args .words)) (c .before .before .before .before .before .before .before .before .before .before .before .before .args .head)) w) 0x0C 0 room) (c .before .before .before .before .before .write-in .ensures))
 
 pub write-buffer-spec : {M : Type 1} → statement M
 write-buffer-spec =

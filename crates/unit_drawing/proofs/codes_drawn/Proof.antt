@@ -2,7 +2,7 @@ use borrow.Author.Tests.{eq-eqb, ne-eqb}
 use borrow.Author.Needs.{needs}
 use Rattle.unit_items.specs.Items.{itemsOf}
 use Rattle.unit_drawing.specs.Drawing.{codesStrokes}
-use Rattle.unit_drawing.specs.Laws.{upto-code}
+use Rattle.unit_drawing.proofs.Laws.{upto-code}
 use Rattle.unit_drawing.proofs.codes_drawn.Statement.{statement}
 use Rattle.unit_drawing.proofs.codes_drawn.Tie as tie
 

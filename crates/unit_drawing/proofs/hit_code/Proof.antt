@@ -1,5 +1,5 @@
 use borrow.Author.Needs.{needs}
-use Rattle.unit_drawing.specs.Laws.{hit-alone}
+use Rattle.unit_drawing.proofs.Laws.{hit-alone}
 use Rattle.unit_drawing.proofs.hit_code.Statement.{statement}
 use Rattle.unit_drawing.proofs.hit_code.Tie as tie
 

@@ -1,7 +1,7 @@
 use borrow.Author.Tests.{eq-eqb, ne-eqb}
 use borrow.Author.Needs.{needs}
 use Rattle.unit_drawing.specs.Drawing.{codesStrokes}
-use Rattle.unit_drawing.specs.Laws.{hit-behind}
+use Rattle.unit_drawing.proofs.Laws.{hit-behind}
 use Rattle.unit_drawing.proofs.hit_codes.Statement.{statement}
 use Rattle.unit_drawing.proofs.hit_codes.Tie as tie
 

@@ -1,5 +1,5 @@
 use borrow.Author.Needs.{needs}
-use Rattle.unit_drawing.specs.Laws.{upto-one}
+use Rattle.unit_drawing.proofs.Laws.{upto-one}
 use Rattle.unit_drawing.specs.Drawing.{upto}
 use Rattle.unit_drawing.proofs.trace_part.Statement.{statement}
 use Rattle.unit_drawing.proofs.trace_part.Tie as tie

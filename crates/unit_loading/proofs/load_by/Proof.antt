@@ -1,7 +1,6 @@
 use mathlib.Core.Path.{ap, _∙_}
 use Rattle.unit_head.specs.Head.{DisplayUnit}
-use Rattle.unit_loading.specs.Loading.{loadEnd}
-use Rattle.unit_loading.specs.declared.LoadReply.the-variants.{Done}
+use Rattle.unit_loading.specs.Loading.{LoadValues, loadEnd}
 use borrow.Author.Tests.{eq-eqb, ne-eqb}
 use borrow.Author.Needs.{needs}
 use Rattle.unit_loading.proofs.load_by.Statement.{statement}
@@ -32,7 +31,7 @@ refused-requires-3 : tie.Need-refused-requires-3
 refused-requires-3 c κs = search needs
 
 returns : tie.Need-returns
-returns c = simp (c .before .before .size .given .1, c .refused .ensures)
+returns c = simp (c .before .before .size .given .1) (c .refused .ensures _)
 
 same-length : tie.Need-same-length
 same-length c = search needs
@@ -40,15 +39,17 @@ same-length c = search needs
 returns-2 : tie.Need-returns-2
 returns-2 c = let e = c .before .before .before .before .before .before in
     simp (e .before .before .before .size2 .given .1, eq-eqb _ _ (e .if1 .taken ∙ e .before .size-of .ensures .0), ← c .before .before .before .before .before .all-proper .ensures, c .before .before .before .before .if2 .taken)
-    (ap (λ (u : DisplayUnit). loadEnd u Done) (c .before .before .load-words .ensures))
+    (ap (λ (u : DisplayUnit). loadEnd u LoadValues.loaded) (c .before .before .load-words .ensures))
 
 returns-3 : tie.Need-returns-3
 returns-3 c = let e = c .before .before .before .before in
-    simp (e .before .before .size2 .given .1, ← e .size-of .ensures .0, eq-eqb _ _ (c .before .before .before .if1 .taken), ← c .before .before .all-proper .ensures, c .before .if2 .left, c .refused2 .ensures)
+    simp (e .before .before .size2 .given .1, ← e .size-of .ensures .0, eq-eqb _ _ (c .before .before .before .if1 .taken), ← c .before .before .all-proper .ensures, c .before .if2 .left)
+    (c .refused2 .ensures _)
 
 returns-4 : tie.Need-returns-4
 returns-4 c = let e = c .before .before in
-    simp (e .before .before .size2 .given .1, ← e .size-of .ensures .0, ne-eqb _ _ (c .before .if1 .left), c .refused3 .ensures)
+    simp (e .before .before .size2 .given .1, ← e .size-of .ensures .0, ne-eqb _ _ (c .before .if1 .left))
+    (c .refused3 .ensures _)
 
 pub load-by-spec : {M : Type 1} → statement M
 load-by-spec =

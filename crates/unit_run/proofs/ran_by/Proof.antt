@@ -9,7 +9,7 @@ sense-after-requires : tie.Need-sense-after-requires
 sense-after-requires c κs = search needs
 
 returns : tie.Need-returns
-returns c = simp (c .sense-after .ensures, c .before .status-after .ensures)
+returns c = λ words list. simp (c .sense-after .ensures, c .before .status-after .ensures)
 
 pub ran-by-spec : {M : Type 1} → statement M
 ran-by-spec = tie.close (tie.spec status-after-requires sense-after-requires returns)

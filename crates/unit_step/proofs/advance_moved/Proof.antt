@@ -12,15 +12,12 @@ hit-at-requires c κs = search needs
 beam-after-requires : tie.Need-beam-after-requires
 beam-after-requires c κs = search needs
 
-behind-requires : tie.Need-behind-requires
-behind-requires c κs = search needs
-
 data-by-requires : tie.Need-data-by-requires
 data-by-requires c κs = search needs
 
 returns : tie.Need-returns
 unfolding movedOf
-returns c = simp (c .before .behind .ensures, c .before .before .beam-after .ensures, c .before .before .before .hit-at .ensures, c .before .before .before .before .seen-of .ensures) at (c .data-by .ensures)
+returns c = simp (c .before .beam-after .ensures, c .before .before .hit-at .ensures, c .before .before .before .seen-of .ensures) at (c .data-by .ensures)
 
 pub advance-moved-spec : {M : Type 1} → statement M
 advance-moved-spec =
@@ -29,6 +26,5 @@ advance-moved-spec =
     seen-of-requires
     hit-at-requires
     beam-after-requires
-    behind-requires
     data-by-requires
     returns)

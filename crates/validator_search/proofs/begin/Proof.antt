@@ -5,7 +5,7 @@ use native.Mathlib.Omega.{arith}
 use borrow.Author.Needs.{needs}
 use Rattle.validator_store.specs.Layout.{topOf}
 use Rattle.validator_store.specs.Store.{cleared}
-use Rattle.validator_search.specs.Image.{planOf}
+use Rattle.validator_search.specs.Invariant.{planOf}
 use Rattle.validator_search.proofs.Plans.{fitted}
 use Rattle.validator_search.proofs.Levels.{begun}
 use Rattle.validator_search.proofs.begin.Statement.{statement}

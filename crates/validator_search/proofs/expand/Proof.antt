@@ -7,8 +7,7 @@ use Rattle.validator_walks.specs.Places.{placesOf}
 use Rattle.validator_walks.specs.Steps.{Step, Leads, wayOf, asStep}
 use Rattle.validator_walks.proofs.Numbering.{half-positive}
 use Rattle.validator_store.specs.Layout.{twosOf}
-use Rattle.validator_search.specs.Image.{planOf}
-use Rattle.validator_search.specs.Search.{Fitted}
+use Rattle.validator_search.specs.Invariant.{planOf, Fitted}
 use Rattle.validator_search.proofs.Plans.{fitted}
 use Rattle.validator_search.proofs.Growth.{opened-stops, opened-to, opened-either, room-one, room-two}
 use Rattle.validator_search.proofs.expand.Statement.{statement}

@@ -10,8 +10,7 @@ use borrow.Author.Needs.{needs}
 use Rattle.ground_setup.proofs.Laws.{sane}
 use Rattle.validator_walks.specs.Places.{placesOf}
 use Rattle.validator_store.proofs.Bits.{tally-le}
-use Rattle.validator_search.specs.Image.{planOf}
-use Rattle.validator_search.specs.Search.{Plan, Fitted, Mid, none}
+use Rattle.validator_search.specs.Invariant.{planOf, Plan, Fitted, Mid, none}
 use Rattle.validator_search.proofs.Plans.{fitted}
 use Rattle.validator_search.proofs.Levels.{flip, clean, first}
 use Rattle.validator_search.proofs.explore.Statement.{statement}

@@ -2,8 +2,7 @@
 use mathlib.Core.Path.{_≡_, refl, _∙_, subst}
 use Prim.Native.Nat.{ℕ, _+_, _-_}
 use native.Mathlib.Omega.{arith}
-use Rattle.validator_search.specs.Image.{planOf}
-use Rattle.validator_search.specs.Search.{Mid, Next}
+use Rattle.validator_search.specs.Invariant.{planOf, Mid, Next}
 use Rattle.validator_search.proofs.level.Statement.{statement}
 use Rattle.validator_search.proofs.level.Tie as tie
 

@@ -10,8 +10,7 @@ use borrow.Author.Needs.{needs}
 use Rattle.validator_walks.specs.Steps.{Step, wayOf, asStep}
 use Rattle.validator_store.specs.Layout.{baseOf, capOf}
 use Rattle.validator_store.specs.Store.{entryAt}
-use Rattle.validator_search.specs.Image.{planOf}
-use Rattle.validator_search.specs.Search.{slot, Plan, Fitted, Mid, Ready, Next, Expands}
+use Rattle.validator_search.specs.Invariant.{planOf, slot, Plan, Fitted, Mid, Ready, Next, Expands}
 use Rattle.validator_search.proofs.Plans.{fitted}
 use Rattle.validator_search.proofs.Growth.{room-one}
 use Rattle.validator_search.proofs.Levels.{ready, grew, blamed}

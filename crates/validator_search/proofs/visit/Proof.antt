@@ -8,8 +8,7 @@ use Rattle.ground_setup.proofs.Laws.{sane}
 use Rattle.validator_store.specs.Layout.{baseOf, capOf}
 use Rattle.validator_store.specs.Store.{bitOf, marked, saved}
 use Rattle.validator_store.proofs.Bits.{bitOf-lt}
-use Rattle.validator_search.specs.Search.{slot}
-use Rattle.validator_search.specs.Image.{planOf}
+use Rattle.validator_search.specs.Invariant.{slot, planOf}
 use Rattle.validator_search.proofs.Growth.{still, visited}
 use Rattle.validator_search.proofs.visit.Statement.{statement}
 use Rattle.validator_search.proofs.visit.Tie as tie

@@ -9,7 +9,7 @@ use Rattle.validator_walks.specs.declared.Answer.{Answer}
 use Rattle.validator_walks.specs.Places.{place, numberOf}
 use Rattle.validator_search.specs.declared.Searched.{Searched}
 use Rattle.validator_search.specs.declared.Searched.the-variants.{Found}
-use Rattle.validator_search.specs.Image.{fitting, SearchAnswered}
+use Rattle.validator_search.specs.Search.{fitting, SearchAnswered}
 use Rattle.validator_verdict.proofs.Judging.{judged-none, judged-passed, judged-fault}
 use Rattle.validator_verdict.proofs.judge.Statement.{statement}
 use Rattle.validator_verdict.proofs.judge.Tie as tie

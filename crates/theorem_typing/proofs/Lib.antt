@@ -1,0 +1,3 @@
+pub mod Words
+pub mod Each
+pub mod Typing
