@@ -97,6 +97,8 @@ lookCases =
     ∷ in-words (spoilt ∷ spoilt ∷ []) K4 0 mode.Idle (look.Check 0)
     ∷ in-words (wordOf 0 false true ∷ spoilt ∷ []) K4 0 mode.Idle (look.Check 1)
     ∷ in-words (map (λ (b : ℕ). wordOf b false true) (0x2A ∷ 0xFF ∷ 0 ∷ []) ++ (spoilt ∷ [])) K4 0 mode.Idle (look.Check 3)
+    -- a no-op of four bytes reads nothing of the two that it skips
+    ∷ in-words (map (λ (b : ℕ). wordOf b false true) (0x2A ∷ 0xC0 ∷ []) ++ (spoilt ∷ spoilt ∷ [])) K4 0 mode.Idle (look.Pass 4)
     ∷ in-words (wordOf 1 true true ∷ wordOf 2 false true ∷ []) K4 0 mode.Basic (look.Two 1 2 2)
     -- the last address is followed by 0
     ∷ in-image (replicate 4096 1) K4 4094 mode.Point (look.Four 1 1 1 1 2)

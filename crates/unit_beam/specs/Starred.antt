@@ -16,6 +16,9 @@ pub record Starred : Type 0 where
   pub basic-1008 : afterCharacter Basic (beamAt 1008 500) ≡ beamAt 1022 500
   pub basic-1022 : afterCharacter Basic (beamAt 1022 500) ≡ beamAt 0 480
   pub large-1008 : afterCharacter Large (beamAt 1008 500) ≡ beamAt 0 470
+  -- "below 0 Y becomes 1,023 (house)"
+  pub bottom-line : newLine Basic (beamAt 700 20) ≡ beamAt 0 0
+  pub below-bottom : newLine Basic (beamAt 700 19) ≡ beamAt 0 1023
 
 pub starred : Starred
 unfolding increment afterCharacter newLine lineBelow
@@ -30,6 +33,8 @@ starred =
       basic-1008 = refl;
       basic-1022 = refl;
       large-1008 = refl;
+      bottom-line = refl;
+      below-bottom = refl;
     }
 
 -- what Read XY gives, taken as an absolute coordinate, is the coordinate

@@ -1,4 +1,4 @@
--- The law of one store, which serves every writer, and what it means that the number is nought.
+-- The law of one store, which serves every writer, and what it means that the number is 0.
 use Prim.Native.Nat.{ℕ, zero, suc, _+_, _%_, _<_, _≤_}
 use native.Mathlib.Omega.{arith}
 use native.Mathlib.Decide.{ℕ-discrete}
@@ -55,7 +55,7 @@ pub wrong-by-as-much : (n k w m : ℕ) (words : List ℕ) → k < n → k < leng
 unfolding recounted
 wrong-by-as-much n k w m words h l = omega (arith, one-store n k w words h l, bit-most (getD words k 0), bit-most w)
 
--- where the number is nought no location has a cursor
+-- where the number is 0 no location has a cursor
 pub none-set : (n : ℕ) (words : List ℕ) → cursorsIn n words ≡ 0 → (k : ℕ) → k < n → cursorOf (getD words k 0) ≡ false
 unfolding cursorsIn
 none-set zero words e k h = absurd (omega arith)
@@ -65,7 +65,7 @@ none-set (suc n) words e k h =
       | no m ↦ none-set n words (omega arith) k (omega arith)
     ]
 
--- and where no location has one the number is nought
+-- and where no location has one the number is 0
 pub none-counted : (n : ℕ) (words : List ℕ) → ((k : ℕ) → k < n → cursorOf (getD words k 0) ≡ false) → cursorsIn n words ≡ 0
 unfolding cursorsIn
 none-counted zero words none = refl
