@@ -13,7 +13,7 @@ fn main() {
         None => PathBuf::from(env::var_os("CARGO_MANIFEST_DIR").expect("cargo sets it")).join("../target/staticlib"),
     };
     println!("cargo:rustc-link-search=native={}", folder.display());
-    for library in ["capi_validate", "capi_run", "capi_script"] {
+    for library in ["capi_validate", "capi_advance", "capi_run", "capi_script"] {
         println!("cargo:rerun-if-changed={}", folder.join(format!("lib{library}.a")).display());
         println!("cargo:rustc-link-lib=static={library}");
     }

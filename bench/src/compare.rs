@@ -1,6 +1,7 @@
 //! Holds the proved side against the plain one on random input, and stops at the first difference.
 
-use crate::device::{Device, Ran, Refused};
+use crate::device::{Advanced, Device, Ran, Refused};
+use crate::drawing::Beam;
 use crate::proved::Proved;
 use crate::random::{self, Random};
 use crate::validator::{validate, STORE};
@@ -56,7 +57,30 @@ fn images(proved: &Proved, random: &mut Random) -> Result<(), String> {
     Ok(())
 }
 
-/// Loads a dump, sets the switch, starts by the command and runs: the plain side of `Proved::run`.
+/// What advancing comes to.
+#[derive(Clone, Copy, PartialEq, Eq, Debug)]
+pub struct Place {
+    pub advanced: Advanced,
+    pub address: u16,
+    pub beam: Beam,
+}
+
+/// Loads a dump, sets the switch and starts by the command.
+fn started(dump: &[u16], size: u32, start: u16, closed: bool) -> Result<Device, Refused> {
+    let mut device = Device::load(size, dump)?;
+    device.set_switch(closed);
+    device.command(0x27, &start.to_be_bytes(), &mut [])?;
+    Ok(device)
+}
+
+/// The plain side of `Proved::advance`.
+pub fn plain_advance(dump: &[u16], size: u32, start: u16, closed: bool, sights: &[u8]) -> Result<Place, Refused> {
+    let mut device = started(dump, size, start, closed)?;
+    let advanced = device.advance(sights)?;
+    Ok(Place { advanced, address: device.state.address, beam: device.state.beam })
+}
+
+/// The plain side of `Proved::run`.
 pub fn plain_run(
     dump: &[u16],
     size: u32,
@@ -65,14 +89,11 @@ pub fn plain_run(
     sights: &[u8],
     list: &mut [[u16; 8]],
 ) -> Result<Ran, Refused> {
-    let mut device = Device::load(size, dump)?;
-    device.set_switch(closed);
-    device.command(0x27, &start.to_be_bytes(), &mut [])?;
-    device.run(sights, list)
+    started(dump, size, start, closed)?.run(sights, list)
 }
 
 fn runs(proved: &Proved, random: &mut Random) -> Result<(), String> {
-    let mut ends = [0; 12];
+    let (mut ends, mut advanced) = ([0; 12], [0; 12]);
     for number in 1..=RUNS {
         let size = random.size();
         let mut dump = random::dump(random, size);
@@ -94,6 +115,15 @@ fn runs(proved: &Proved, random: &mut Random) -> Result<(), String> {
         let wanted = plain_run(&dump, size, start, closed, &sights, &mut plain_list);
         let got = proved.run(&dump, size, start, closed, &sights, &mut proved_list);
         ends[wanted.map_or(11, |ran| ran.end as usize)] += 1;
+        let there = plain_advance(&dump, size, start, closed, &sights);
+        let proved_there = proved.advance(&dump, size, start, closed, &sights);
+        advanced[there.map_or(11, |place| place.advanced.end as usize)] += 1;
+        if proved_there != there {
+            return Err(format!(
+                "advance {number}: size {size} start {start} closed {closed} sights {}: proved {proved_there:?}, plain {there:?}",
+                sights.len()
+            ));
+        }
         if got != wanted || proved_list != plain_list {
             return Err(format!(
                 "run {number}: size {size} start {start} closed {closed} sights {} room {}: proved {got:?}, plain {wanted:?}",
@@ -102,7 +132,8 @@ fn runs(proved: &Proved, random: &mut Random) -> Result<(), String> {
             ));
         }
     }
-    println!("runs: {RUNS} agree (ended 0 to 10 {:?}, refused {})", &ends[..11], ends[11]);
+    println!("advances: {RUNS} agree (ended 0 to 10 {:?}, refused {})", &advanced[..11], advanced[11]);
+    println!("runs with their lists: {RUNS} agree (ended 0 to 10 {:?}, refused {})", &ends[..11], ends[11]);
     Ok(())
 }
 

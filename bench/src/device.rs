@@ -1,7 +1,8 @@
 //! The display unit: its locations, its commands and its run (01 and 000).
 
-use crate::drawing::{character_size, draw_characters, draw_coordinates, draw_increment, Beam, List, Setting};
-use crate::orders::{Mode, Order, Size};
+use crate::drawing::{character_size, draw_characters, draw_coordinates, draw_increment};
+use crate::drawing::{Beam, Drawn, List, Setting, Sink, Unlisted};
+use crate::orders::{Mode, Order, Size, SM};
 use crate::pen::{Pen, PenMode};
 use crate::step::{look, Fault, Group, Locations, Look};
 
@@ -152,6 +153,12 @@ impl From<Fault> for End {
             Fault::OrderForY => End::OrderForY,
         }
     }
+}
+
+#[derive(Clone, Copy, PartialEq, Eq, Debug)]
+pub struct Advanced {
+    pub steps: usize,
+    pub end: End,
 }
 
 #[derive(Clone, Copy, PartialEq, Eq, Debug)]
@@ -381,19 +388,36 @@ impl Device {
         self.status = status::STOPPED;
     }
 
+    /// Regenerates, one step for each sight.
+    pub fn advance(&mut self, sights: &[u8]) -> Result<Advanced, Refused> {
+        self.regenerate(sights, &mut Unlisted)
+    }
+
     /// Regenerates, one step for each sight, and puts the items drawn into the list.
     pub fn run(&mut self, sights: &[u8], list: &mut [[u16; 8]]) -> Result<Ran, Refused> {
+        let mut list = List::new(list);
+        let Advanced { steps, end } = self.regenerate(sights, &mut list)?;
+        Ok(Ran { steps, end, items: list.count })
+    }
+
+    fn regenerate(&mut self, sights: &[u8], list: &mut impl Sink) -> Result<Advanced, Refused> {
         if sights.iter().any(|&sight| sight > 2) {
             return Err(Refused(8));
         }
         if !self.state.running {
-            return Ok(Ran { steps: 0, end: End::NotRunning, items: 0 });
+            return Ok(Advanced { steps: 0, end: End::NotRunning });
         }
-        let (mut state, mut list) = (self.state, List::new(list));
+        let mut state = self.state;
         let (mut steps, mut end) = (0, End::SightsUsedUp);
-        for &sight in sights {
-            match step(&self.words, self.size, &mut state, sight, &mut list) {
+        while let Some(&sight) = sights.get(steps) {
+            match step(&self.words, self.size, &mut state, sight, list) {
                 Step::Going => steps += 1,
+                Step::Data => {
+                    steps += 1;
+                    if !state.pen.detects() {
+                        steps += stretch(&self.words, self.size, &mut state, sights.len() - steps, list);
+                    }
+                }
                 Step::Stopped(why) => {
                     steps += 1;
                     end = why;
@@ -405,7 +429,6 @@ impl Device {
                 }
             }
         }
-        let items = list.count;
         self.state = state;
         match end {
             End::OrderSequenceEnded => self.stop(sense::END_ORDER_SEQUENCE),
@@ -413,7 +436,7 @@ impl Device {
             End::DataCheck => self.stop(sense::DATA_CHECK),
             _ => {}
         }
-        Ok(Ran { steps, end, items })
+        Ok(Advanced { steps, end })
     }
 }
 
@@ -450,13 +473,15 @@ impl Locations for UnitWords<'_> {
 
 enum Step {
     Going,
+    /// Done, and it was a step over data.
+    Data,
     /// Done, and regeneration stopped.
     Stopped(End),
     NotDone(End),
 }
 
 /// One step: moves the state and puts what is drawn into the list.
-fn step(words: &Words, size: Size, state: &mut State, sight: u8, list: &mut List) -> Step {
+fn step(words: &Words, size: Size, state: &mut State, sight: u8, list: &mut impl Sink) -> Step {
     let State { address, mode, beam, .. } = *state;
     let sight = if state.pen.detects() { sight } else { 0 };
     let setting = Setting { address, beam, sight };
@@ -486,7 +511,7 @@ fn step(words: &Words, size: Size, state: &mut State, sight: u8, list: &mut List
             }
             _ => {
                 state.address = next;
-                return Step::Going;
+                return Step::Data;
             }
         },
     };
@@ -501,9 +526,79 @@ fn step(words: &Words, size: Size, state: &mut State, sight: u8, list: &mut List
         }
         None => {
             state.address = next;
-            Step::Going
+            Step::Data
         }
     }
+}
+
+/// For each location word, whether it is written with good parity, and whether it is that and not the set mode byte.
+static READABLE: [bool; 2048] = table(false);
+static DATA: [bool; 2048] = table(true);
+
+const fn table(leading: bool) -> [bool; 2048] {
+    let mut table = [false; 2048];
+    let mut w = 0;
+    while w < 2048 {
+        let word = w as u16;
+        let good = (word & 0x03FF).count_ones() % 2 == 1;
+        table[w] = word & word::WRITTEN != 0 && good && !(leading && word as u8 == SM);
+        w += 1;
+    }
+    table
+}
+
+/// Steps over data that nothing stops and that end below the size, at most so many, while the pen detects nothing;
+/// gives how many they were.
+fn stretch(words: &Words, size: Size, state: &mut State, most: usize, list: &mut impl Sink) -> usize {
+    let rest = &words[state.address as usize..size.locations() as usize];
+    match state.mode {
+        Mode::Idle => over(rest, state, size, most, |_: [u16; 2], setting| at_rest(setting)),
+        Mode::Point => {
+            over(rest, state, size, most, |w, setting| draw_coordinates(w.map(word::data), false, setting, list))
+        }
+        Mode::Vector => {
+            over(rest, state, size, most, |w, setting| draw_coordinates(w.map(word::data), true, setting, list))
+        }
+        Mode::IncrementalPoint => {
+            over(rest, state, size, most, |w, setting| draw_increment(w.map(word::data), false, setting, list))
+        }
+        Mode::IncrementalVector => {
+            over(rest, state, size, most, |w, setting| draw_increment(w.map(word::data), true, setting, list))
+        }
+        mode @ (Mode::Basic | Mode::Large) => over(rest, state, size, most, |w: [u16; 2], setting| {
+            draw_characters(w.map(word::data), w.map(word::has_cursor), character_size(mode), setting, list)
+        }),
+    }
+}
+
+fn at_rest(setting: Setting) -> Option<Drawn> {
+    Some(Drawn { beam: setting.beam, detected: None })
+}
+
+#[inline(always)]
+fn over<const N: usize>(
+    rest: &[u16],
+    state: &mut State,
+    size: Size,
+    most: usize,
+    mut each: impl FnMut([u16; N], Setting) -> Option<Drawn>,
+) -> usize {
+    let State { mut address, mut beam, .. } = *state;
+    let mut steps = 0;
+    for group in rest.chunks_exact(N).take(most) {
+        let group: [u16; N] = group.try_into().expect("it has N words");
+        let is_data = group.chunks_exact(2).all(|w| DATA[w[0] as usize % 2048] & READABLE[w[1] as usize % 2048]);
+        if !is_data {
+            break;
+        }
+        let Some(drawn) = each(group, Setting { address, beam, sight: 0 }) else { break };
+        beam = drawn.beam;
+        address += N as u16;
+        steps += 1;
+    }
+    state.beam = beam;
+    state.address = size.wrap(address);
+    steps
 }
 
 fn obey(order: Order, next: u16, state: &mut State) -> Step {

@@ -76,6 +76,14 @@ impl Beam {
     }
 }
 
+/// Where drawn items go.
+pub trait Sink {
+    /// How many more it takes.
+    fn room(&self) -> usize;
+    /// Puts an item behind those that it has; it has room.
+    fn put(&mut self, item: Item);
+}
+
 /// The lent list: eight numbers for each item.
 pub struct List<'a> {
     room: &'a mut [[u16; 8]],
@@ -86,15 +94,40 @@ impl<'a> List<'a> {
     pub fn new(room: &'a mut [[u16; 8]]) -> List<'a> {
         List { room, count: 0 }
     }
+}
 
-    /// Puts the items at the list's end if they all fit, and says whether they did.
-    pub fn put(&mut self, items: &[Item]) -> bool {
-        let Some(room) = self.room.get_mut(self.count..self.count + items.len()) else { return false };
-        for (place, item) in room.iter_mut().zip(items) {
-            *place = item.numbers();
-        }
-        self.count += items.len();
-        true
+impl Sink for List<'_> {
+    fn room(&self) -> usize {
+        self.room.len() - self.count
+    }
+
+    fn put(&mut self, item: Item) {
+        self.room[self.count] = item.numbers();
+        self.count += 1;
+    }
+}
+
+/// Items that nobody asks for.
+pub struct Unlisted;
+
+impl Sink for Unlisted {
+    fn room(&self) -> usize {
+        usize::MAX
+    }
+
+    fn put(&mut self, _: Item) {}
+}
+
+/// How many items there would be.
+struct Counted(usize);
+
+impl Sink for Counted {
+    fn room(&self) -> usize {
+        usize::MAX
+    }
+
+    fn put(&mut self, _: Item) {
+        self.0 += 1;
     }
 }
 
@@ -127,64 +160,84 @@ pub struct Setting {
 }
 
 /// Four bytes of data in point or vector mode. Nothing if the list has no room.
-pub fn draw_coordinates(bytes: [u8; 4], vector: bool, setting: Setting, list: &mut List) -> Option<Drawn> {
+#[inline(always)]
+pub fn draw_coordinates(bytes: [u8; 4], vector: bool, setting: Setting, list: &mut impl Sink) -> Option<Drawn> {
     let to = Beam { x: coordinate(bytes[0], bytes[1]), y: coordinate(bytes[2], bytes[3]) };
     draw_move(to, bytes[0] & 0x40 != 0, vector, setting, list)
 }
 
 /// A word of data in an incremental mode.
-pub fn draw_increment(bytes: [u8; 2], vector: bool, setting: Setting, list: &mut List) -> Option<Drawn> {
+#[inline(always)]
+pub fn draw_increment(bytes: [u8; 2], vector: bool, setting: Setting, list: &mut impl Sink) -> Option<Drawn> {
     let Beam { x, y } = setting.beam;
     let to = Beam { x: add_increment(x, bytes[0]), y: add_increment(y, bytes[1]) };
     draw_move(to, bytes[1] & 1 != 0, vector, setting, list)
 }
 
-fn draw_move(to: Beam, blanked: bool, vector: bool, setting: Setting, list: &mut List) -> Option<Drawn> {
+#[inline(always)]
+fn draw_move(to: Beam, blanked: bool, vector: bool, setting: Setting, list: &mut impl Sink) -> Option<Drawn> {
     let Setting { address, beam: from, sight } = setting;
     if blanked {
         return Some(Drawn { beam: to, detected: None });
     }
-    let item = if vector { Item::Vector { from, to, address } } else { Item::Point { at: to, address } };
-    list.put(&[item]).then_some(Drawn { beam: to, detected: (sight == 1).then_some(address) })
+    if list.room() == 0 {
+        return None;
+    }
+    list.put(if vector { Item::Vector { from, to, address } } else { Item::Point { at: to, address } });
+    Some(Drawn { beam: to, detected: (sight == 1).then_some(address) })
 }
 
-/// A word of data in a character mode.
+/// A word of data in a character mode: four items at most.
+#[inline(always)]
 pub fn draw_characters(
     bytes: [u8; 2],
     cursors: [bool; 2],
     size: CharacterSize,
     setting: Setting,
-    list: &mut List,
+    list: &mut impl Sink,
 ) -> Option<Drawn> {
-    let mut items = [Item::Point { at: setting.beam, address: 0 }; 4];
-    let (mut count, mut characters) = (0, 0);
-    let mut drawn = Drawn { beam: setting.beam, detected: None };
+    if list.room() < 4 {
+        let mut counted = Counted(0);
+        put_characters(bytes, cursors, size, setting, &mut counted);
+        if counted.0 > list.room() {
+            return None;
+        }
+    }
+    Some(put_characters(bytes, cursors, size, setting, list))
+}
+
+#[inline(always)]
+fn put_characters(
+    bytes: [u8; 2],
+    cursors: [bool; 2],
+    size: CharacterSize,
+    setting: Setting,
+    list: &mut impl Sink,
+) -> Drawn {
+    let (mut beam, mut characters) = (setting.beam, 0);
     for i in 0..2 {
-        let (code, at, address) = (bytes[i], drawn.beam, setting.address + i as u16);
+        let (code, at, address) = (bytes[i], beam, setting.address + i as u16);
         match code {
             NULL => continue,
             NEW_LINE => {
-                drawn.beam = at.new_line(size);
+                beam = at.new_line(size);
                 continue;
             }
             BLANK | SM => {}
             _ => {
-                items[count] = Item::Character { at, code, size, address };
-                count += 1;
+                list.put(Item::Character { at, code, size, address });
                 characters += 1;
                 if characters == setting.sight {
-                    drawn = Drawn { beam: at.space(size), detected: Some(address) };
-                    break;
+                    return Drawn { beam: at.space(size), detected: Some(address) };
                 }
             }
         }
         if cursors[i] {
-            items[count] = Item::Cursor { at, code, size, address };
-            count += 1;
+            list.put(Item::Cursor { at, code, size, address });
         }
-        drawn.beam = at.space(size);
+        beam = at.space(size);
     }
-    list.put(&items[..count]).then_some(drawn)
+    Drawn { beam, detected: None }
 }
 
 const NULL: u8 = 0x00;

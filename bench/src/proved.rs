@@ -1,5 +1,5 @@
-//! The proved side: what the static libraries capi_validate, capi_run and capi_script export, one
-//! call each, wrapped in safe functions. This is the one file that knows the boundary. Nothing checks
+//! The proved side: what the static libraries capi_validate, capi_advance, capi_run and capi_script export,
+//! one call each, wrapped in safe functions. This is the one file that knows the boundary. Nothing checks
 //! these declarations against the Rattle source.
 //!
 //! On the Rattle side, with `#[no_mangle] pub extern "C"`:
@@ -10,24 +10,29 @@
 //! khaonuat_script(script: &[u8], out: &mut [u8]) -> usize
 //!     one console session from its first line to its last: the bytes it printed into `out`,
 //!     which is lent large enough
+//! khaonuat_advance(dump: &[u16], size: u32, start: u16, closed: bool, sights: &[u8],
+//!     place: &mut [usize; 4]) -> u64
+//!     loads the dump, sets the switch, starts the unit at `start` by the command 27 and advances it;
+//!     `place` is given the steps done and the address, X and Y behind them; a refusal leaves it as it was
 //! khaonuat_run(dump: &[u16], size: u32, start: u16, closed: bool, sights: &[u8], items: &mut [u16],
 //!     counts: &mut [usize; 2]) -> u64
-//!     loads the dump, sets the switch, starts the unit at `start` by the command 27 and runs it;
-//!     `items` has room for its length divided by eight items, and `counts` is given the steps done
+//!     the same with the items that each step draws listed before it is done; `items` has room for its length divided by eight items, and `counts` is given the steps done
 //!     and the items listed; a refusal leaves both as they were
 //! ```
 //!
 //! A slice passes as a pointer and a length in elements, an array as a pointer. Answers in one number, from the top: one
-//! byte that says which, 0 passed or ran, 1 fault, 2 refused, and then
+//! byte that says which, 0 passed or advanced, 1 fault, 2 refused, and then
 //!
 //! | Answer | Bits 48 to 55 | Rest |
 //! |---|---|---|
 //! | passed | 0 | bits 0 to 31 the places |
 //! | fault | its number | bits 32 to 47 the address, 0 to 31 the steps |
-//! | ran | 0 | bits 0 to 7 why it ended |
+//! | advanced | 0 | bits 0 to 7 why it ended |
 //! | refused | 0 | bits 0 to 7 its number |
 
-use crate::device::{End, Ran, Refused};
+use crate::compare::Place;
+use crate::device::{Advanced, End, Ran, Refused};
+use crate::drawing::Beam;
 use crate::validator::Verdict;
 
 /// The proved implementation, if it is linked in.
@@ -49,6 +54,16 @@ mod ffi {
             store_length: usize,
         ) -> u64;
         pub fn khaonuat_script(script: *const u8, script_length: usize, out: *mut u8, out_length: usize) -> usize;
+        pub fn khaonuat_advance(
+            dump: *const u16,
+            dump_length: usize,
+            size: u32,
+            start: u16,
+            closed: bool,
+            sights: *const u8,
+            sights_length: usize,
+            place: *mut [usize; 4],
+        ) -> u64;
         pub fn khaonuat_run(
             dump: *const u16,
             dump_length: usize,
@@ -82,6 +97,24 @@ impl Proved {
     pub fn script(&self, script: &[u8], out: &mut [u8]) -> usize {
         // SAFETY: as above.
         unsafe { ffi::khaonuat_script(script.as_ptr(), script.len(), out.as_mut_ptr(), out.len()) }
+    }
+
+    pub fn advance(&self, dump: &[u16], size: u32, start: u16, closed: bool, sights: &[u8]) -> Result<Place, Refused> {
+        let mut place = [0; 4];
+        // SAFETY: as above.
+        let answer = unsafe {
+            ffi::khaonuat_advance(
+                dump.as_ptr(),
+                dump.len(),
+                size,
+                start,
+                closed,
+                sights.as_ptr(),
+                sights.len(),
+                &mut place,
+            )
+        };
+        place_of(answer, place)
     }
 
     pub fn run(
@@ -128,6 +161,10 @@ impl Proved {
         match *self {}
     }
 
+    pub fn advance(&self, _: &[u16], _: u32, _: u16, _: bool, _: &[u8]) -> Result<Place, Refused> {
+        match *self {}
+    }
+
     pub fn run(&self, _: &[u16], _: u32, _: u16, _: bool, _: &[u8], _: &mut [[u16; 8]]) -> Result<Ran, Refused> {
         match *self {}
     }
@@ -144,14 +181,21 @@ fn verdict_of(answer: u64) -> Verdict {
 }
 
 #[cfg_attr(not(feature = "proved"), allow(dead_code))]
-fn ran_of(answer: u64, [steps, items]: [usize; 2]) -> Result<Ran, Refused> {
+fn end_of(answer: u64) -> Result<End, Refused> {
     match answer >> 56 {
-        0 => Ok(Ran {
-            steps,
-            end: End::of_number(answer as u8).unwrap_or_else(|| panic!("no end of a run: {answer:#018x}")),
-            items,
-        }),
+        0 => Ok(End::of_number(answer as u8).unwrap_or_else(|| panic!("no end of a run: {answer:#018x}"))),
         2 => Err(Refused(answer as u8)),
         _ => panic!("no answer of a run: {answer:#018x}"),
     }
+}
+
+#[cfg_attr(not(feature = "proved"), allow(dead_code))]
+fn place_of(answer: u64, [steps, address, x, y]: [usize; 4]) -> Result<Place, Refused> {
+    let beam = Beam { x: x as u16, y: y as u16 };
+    end_of(answer).map(|end| Place { advanced: Advanced { steps, end }, address: address as u16, beam })
+}
+
+#[cfg_attr(not(feature = "proved"), allow(dead_code))]
+fn ran_of(answer: u64, [steps, items]: [usize; 2]) -> Result<Ran, Refused> {
+    end_of(answer).map(|end| Ran { steps, end, items })
 }

@@ -3,7 +3,7 @@
 //! clear what they need of the store before a search and all of it after; a run includes the loading
 //! of the dump.
 
-use crate::compare::plain_run;
+use crate::compare::{plain_advance, plain_run};
 use crate::device::word;
 use crate::orders::SM;
 use crate::proved::Proved;
@@ -74,9 +74,11 @@ pub fn all(proved: Option<&Proved>) {
     if let Some(machine) = machine() {
         println!("\nmachine: {machine}");
     }
-    let (validation, run) = (validations(proved), runs(proved));
+    let (validation, advance, run) = (validations(proved), advances(proved), runs(proved));
     if proved.is_some() {
-        println!("\nlargest ratio: {validation:.2} for a validated image, {run:.2} for a run");
+        println!(
+            "\nlargest ratio: {validation:.2} for a validated image, {advance:.2} for advancing, {run:.2} with the list"
+        );
     }
 }
 
@@ -154,9 +156,10 @@ fn places(verdict: Verdict) -> usize {
     }
 }
 
-fn runs(proved: Option<&Proved>) -> f64 {
+/// A program to be run, by name: its size and the dump of the unit that it is loaded into.
+fn programs() -> Vec<(&'static str, u32, Vec<u16>)> {
     let mut random = Random::new(8);
-    let shapes: Vec<(&str, u32, Vec<u8>)> = vec![
+    let images: Vec<(&str, u32, Vec<u8>)> = vec![
         ("line of idle words, 8192", 8192, vec![0; 8192]),
         ("vectors, 8192", 8192, vectors(8192)),
         ("increments, 8192", 8192, increments(8192)),
@@ -164,12 +167,38 @@ fn runs(proved: Option<&Proved>) -> f64 {
         ("dense transfers, 8192", 8192, random::dense_transfers(&mut random, 2048, 8192)),
         ("one transfer to itself", 4096, vec![SM, 0xFF, 0, 0]),
     ];
-    heading("run of a loaded unit", "steps");
+    let word_at = |image: &[u8], i: usize| image.get(i).map_or(word::FRESH, |&byte| word::stored(byte, false, true));
+    images
+        .into_iter()
+        .map(|(name, size, image)| (name, size, (0..size as usize).map(|i| word_at(&image, i)).collect()))
+        .collect()
+}
+
+fn advances(proved: Option<&Proved>) -> f64 {
+    heading("advancing a loaded unit", "steps");
     let mut largest = 0.0f64;
-    for (name, size, image) in shapes {
-        let dump: Vec<u16> = (0..size as usize)
-            .map(|i| image.get(i).map_or(word::FRESH, |&byte| word::stored(byte, false, true)))
-            .collect();
+    for (name, size, dump) in programs() {
+        let sights = vec![0; STEPS];
+        let advanced = plain_advance(&dump, size, 0, false, &sights).expect("not refused").advanced;
+        assert_eq!(advanced.steps, STEPS, "{name} stops early");
+        let plain = || {
+            black_box(plain_advance(black_box(&dump), size, 0, false, &sights)).expect("not refused");
+        };
+        let proved = proved.map(|proved| {
+            let (dump, sights) = (&dump, &sights);
+            move || {
+                black_box(proved.advance(black_box(dump), size, 0, false, sights)).expect("not refused");
+            }
+        });
+        largest = largest.max(line(name, advanced.steps, race(plain, proved)));
+    }
+    largest
+}
+
+fn runs(proved: Option<&Proved>) -> f64 {
+    heading("the same with the list", "steps");
+    let mut largest = 0.0f64;
+    for (name, size, dump) in programs() {
         let sights = vec![0; STEPS];
         let (mut plain_list, mut proved_list) = (vec![[0; 8]; 4 * STEPS], vec![[0; 8]; 4 * STEPS]);
         let ran = plain_run(&dump, size, 0, false, &sights, &mut plain_list).expect("not refused");

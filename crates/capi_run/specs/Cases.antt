@@ -3,9 +3,9 @@ use mathlib.Core.Path.{_≡_, refl}
 use mathlib.Core.List.{List, [], _∷_}
 use Prim.Native.Nat.{ℕ}
 use Rattle.unit_head.specs.Head.{DisplayUnit}
-use Rattle.unit_run.specs.Run.{RunValues}
+use Rattle.console_run.specs.Pair.{RunValues}
 use Rattle.capi_packed.specs.Packed.{refusedNumber}
-use Rattle.capi_run.specs.Started.{runCall, ranCall}
+use Rattle.capi_run.specs.Running.{runCall, ranCall}
 
 -- three steps to an end order, one item listed
 pub ran-told : (u : DisplayUnit) (list : List ℕ)

@@ -1,2 +1,2 @@
-pub mod Started
+pub mod Running
 pub mod Cases

@@ -14,11 +14,10 @@ use Rattle.console_pictures.specs.Pictures.{itemsText}
 use Rattle.unit_head.specs.Head.{DisplayUnit}
 use Rattle.unit_loading.specs.Loading.{unitLoad}
 use Rattle.unit_commands.specs.Commands.{unitCommand}
-use Rattle.unit_run.specs.Run.{runValues, unitRun}
-use Rattle.unit_run.specs.declared.RunReply.{RunReply}
-use Rattle.unit_run.specs.declared.RunReply.the-variants.{Done}
-use Rattle.unit_step.specs.Step.{endNumber}
-use Rattle.unit_step.specs.declared.End.{End}
+use Rattle.console_run.specs.Pair.{outcomeNumber, runValues, pairRun}
+use Rattle.console_run.specs.declared.Outcome.{Outcome}
+use Rattle.console_run.specs.declared.RunReply.{RunReply}
+use Rattle.console_run.specs.declared.RunReply.the-variants.{Done}
 use Rattle.console_script.specs.Script.{restOf, requestOf}
 use Rattle.console_decode.specs.Decode.{bytesIn, sightsIn}
 use Rattle.console_session.specs.Session.{Said, said, loadSaid, commandSaid, runTold, runSaid, bytesSent, dumpSent, sightsSent, saidBy, saidOf, Speaks}
@@ -45,7 +44,7 @@ pub part-length : (size n : ℕ) → n ≤ size → length (take (n - 0) (drop 0
 part-length size n h = ap length (part-zero size n h) ∙ length-replicate n 0
 
 -- what is said of a run that was done
-pub run-end : (d : Device) (list : List ℕ) {o : RunReply} {steps why items : ℕ} {e : End} → o ≡ Done steps e items → why ≡ endNumber e
+pub run-end : (d : Device) (list : List ℕ) {o : RunReply} {steps why items : ℕ} {e : Outcome} → o ≡ Done steps e items → why ≡ outcomeNumber e
     → said d (ranLine steps why items ++ itemsText list items) ≡ runTold d (runValues o) list
 run-end d list {o} {steps} {why} {items} {e} told h =
     ap (λ (n : ℕ). said d (ranLine steps n items ++ itemsText list items)) h ∙ ap (λ (o : RunReply). runTold d (runValues o) list) (sym told)
@@ -59,9 +58,9 @@ module _ (u : DisplayUnit) where
       ∙ ap (λ (room : List ℕ). commandSaid (unitCommand u code (bytesIn text m) room)) f
 
   pub run-as : (text : List ℕ) {n m : ℕ} {list rest : List ℕ} → n ≡ m → list ≡ rest
-      → runSaid (unitRun u (sightsIn text n) list) ≡ runSaid (unitRun u (sightsIn text m) rest)
+      → runSaid (pairRun u (sightsIn text n) list) ≡ runSaid (pairRun u (sightsIn text m) rest)
   run-as text {n} {m} {list} {rest} e f =
-      ap (λ (n : ℕ). runSaid (unitRun u (sightsIn text n) list)) e ∙ ap (λ (l : List ℕ). runSaid (unitRun u (sightsIn text m) l)) f
+      ap (λ (n : ℕ). runSaid (pairRun u (sightsIn text n) list)) e ∙ ap (λ (l : List ℕ). runSaid (pairRun u (sightsIn text m) l)) f
 
   pub load-of-text : (size : ℕ) {t w : List ℕ} → t ≡ w
       → loadSaid (unitLoad u size (dumpSent t)) ≡ loadSaid (unitLoad u size (dumpSent w))
@@ -72,8 +71,8 @@ module _ (u : DisplayUnit) where
   command-of-text code room e = ap (λ (t : List ℕ). commandSaid (unitCommand u code (bytesSent t) room)) e
 
   pub run-of-text : (list : List ℕ) {t w : List ℕ} → t ≡ w
-      → runSaid (unitRun u (sightsSent t) list) ≡ runSaid (unitRun u (sightsSent w) list)
-  run-of-text list e = ap (λ (t : List ℕ). runSaid (unitRun u (sightsSent t) list)) e
+      → runSaid (pairRun u (sightsSent t) list) ≡ runSaid (pairRun u (sightsSent w) list)
+  run-of-text list e = ap (λ (t : List ℕ). runSaid (pairRun u (sightsSent t) list)) e
 
 -- what stands behind a space is no longer than the line
 pub rest-shorter : (line : List ℕ) → length (restOf line) ≤ length line

@@ -1,11 +1,10 @@
 -- No answer has more than 471,200 bytes: a run's line and the lines of its items, 4,096 of them at most, each of 115 bytes at most.
 use Prim.Native.Nat.{ℕ, suc, _+_, _*_, _/_, _≤_, min}
-use mathlib.Core.Path.{_≡_, refl, _∙_}
+use mathlib.Core.Path.{_≡_, refl}
 use mathlib.Core.Bool.{Bool, true, false, cond}
 use mathlib.Core.List.{List, [], _∷_, _++_}
 use native.Mathlib.Omega.{arith}
 use lib.ListN.{length, getD, replicate, length-append, length-replicate}
-use lib.Seq.{length-sets}
 use lib.Dec.{eqb, leb, ltb}
 use borrow.Author.Tests.{leb-true, ltb-false}
 use Rattle.text_put.specs.Text.{spelled, hexByte, hexWord}
@@ -35,15 +34,9 @@ use Rattle.unit_cursor.specs.Cursor.{Buffer, anySet}
 use Rattle.unit_head.specs.Head.{DisplayUnit, sizeIn, bufferOf}
 use Rattle.unit_head.specs.declared.Head.{Head}
 use Rattle.unit_head.specs.declared.State.{State}
-use Rattle.unit_items.specs.Items.{numbers, fits, listed}
-use Rattle.unit_items.specs.declared.Item.{Item}
 use Rattle.unit_loading.specs.Loading.{LoadValues, unitLoad}
-use Rattle.unit_run.specs.Run.{isDone, outBy, turnOf, outOf, listBy, outFrom, allSights, RunValues, RunEnd, unitRun}
-use Rattle.unit_run.specs.declared.Turn.{Turn}
-use Rattle.unit_run.specs.declared.Turn.the-variants.{On, Last, NotDone}
-use Rattle.unit_step.specs.Step.{lookAt, advanceOf, itemsDrawn}
-use Rattle.unit_step.specs.declared.Stepped.{Stepped}
-use Rattle.unit_step.specs.declared.Stepped.the-variants.{Goes, Stops}
+use Rattle.console_run.specs.Pair.{RunValues, pairRun}
+use Rattle.console_run.proofs.Laws.{pair-long}
 use Rattle.typing_keys.specs.Keys.{KeyValues, unitKey}
 use Rattle.device_2250.specs.Device.{unitOf, deviceOf, anyCursor}
 use Rattle.device_2250.specs.declared.Device.{Device}
@@ -87,41 +80,6 @@ item-short kind x₀ y₀ x y code size a =
     (either-way (Short 115) (eqb kind 2) (vector-short x₀ y₀ x y a)
     (either-way (Short 115) (eqb kind 3) (symbol-short (spelled "character ") x y code size a (omega arith))
     (symbol-short (spelled "cursor ") x y code size a (omega arith))))
-
--- a run leaves its list as long as it was
-abbrev As-long : List ℕ → List ℕ → Type 0
-As-long out out′ = length out′ ≡ length out
-
-listed-length : (out : List ℕ) (have : ℕ) (items : List Item) → As-long out (listed out have items)
-unfolding listed
-listed-length out have items =
-    either-way (As-long out) (fits (length out) have items) (length-sets out (have * 8) (numbers items)) refl
-
-out-length : (stepped : Stepped) (out out′ : List ℕ) → As-long out out′ → As-long out (outBy stepped out out′)
-out-length (Goes s′) out out′ e = e
-out-length (Stops s′ end) out out′ e = either-way (As-long out) (isDone end) e refl
-
-run-length : (b : Buffer) (sights : List ℕ) (s : State) (items : ℕ) (out : List ℕ) → As-long out (outFrom b sights s items out)
-unfolding outFrom outOf
-run-length b [] s items out = refl
-run-length b (g ∷ gs) s items out =
-    by (turnOf b s g items out) (λ s′ items′. run-length b gs s′ items′ (outOf b s g items out))
-    (out-length (advanceOf s (lookAt (b .words) s) g) out (listed out items (itemsDrawn b s (lookAt (b .words) s) g))
-    (listed-length out items (itemsDrawn b s (lookAt (b .words) s) g)))
-  where
-    by : (turn : Turn)
-        → ((s′ : State) (items′ : ℕ) → As-long (outOf b s g items out) (outFrom b gs s′ items′ (outOf b s g items out)))
-        → As-long out (outOf b s g items out)
-        → As-long out (listBy (outOf b s g items out) (λ s′ items′. outFrom b gs s′ items′ (outOf b s g items out)) turn)
-    by (On s′ items′) more e = more s′ items′ ∙ e
-    by (Last s′ items′ end) more e = e
-    by (NotDone s′ end) more e = e
-
-list-length : (u : DisplayUnit) (sights out : List ℕ) → As-long out (unitRun u sights out .list)
-unfolding unitRun
-list-length u sights out =
-    let P : RunEnd → Type 0 = λ e. As-long out (e .list) in
-    either-way P (allSights sights) (either-way P (u .head .state .running) (run-length (bufferOf u) sights (u .head .state) 0 out) refl) refl
 
 -- a command gives no more bytes than its room has
 abbrev GivesAtMost : ℕ → CommandValues → Type 0
@@ -269,9 +227,9 @@ by-within d line request.SwitchClosed fit = omega arith
 by-within d line (request.Run room) fit =
     let sights : List ℕ = sightsSent (restOf (restOf line)) in
     let lent : List ℕ = replicate (8 * room) 0 in
-    let end = unitRun (unitOf d) sights lent in
+    let end = pairRun (unitOf d) sights lent in
     run-within (deviceOf (end .unit)) (end .answer) (end .list)
-    (omega (arith, list-length (unitOf d) sights lent, length-replicate {A = ℕ} (8 * room) 0))
+    (omega (arith, pair-long (unitOf d) sights lent, length-replicate {A = ℕ} (8 * room) 0))
 by-within d line request.State fit = state-short (d .head)
 by-within d line (request.Words from count) fit = words-short (d .words) (d .head .state .setup .size) from count
 by-within d line (request.Key number) fit =

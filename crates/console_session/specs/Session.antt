@@ -9,6 +9,7 @@ use Rattle.text_put.specs.Text.{spelled, putAt, endOf}
 use Rattle.ground_refusals.specs.Refusals.{refusalNumber}
 use Rattle.ground_setup.specs.Setup.{sizeOf, sizedOf}
 use Rattle.console_replies.specs.Replies.{okLine, errorLine, refusalLine, heardLine, ranLine}
+use Rattle.console_run.specs.Pair.{RunValues, RunEnd, pairRun}
 use Rattle.console_contents.specs.Contents.{statusLine, wordsLine}
 use Rattle.console_pictures.specs.Pictures.{itemsText}
 use Rattle.console_conditions.specs.Conditions.{stateLine}
@@ -18,7 +19,6 @@ use Rattle.ground_setup.specs.declared.Sized.{Sized}
 use Rattle.ground_setup.specs.declared.Sized.the-variants as sized
 use Rattle.unit_loading.specs.Loading.{LoadValues, LoadEnd, unitLoad}
 use Rattle.unit_commands.specs.Commands.{CommandValues, CommandEnd, unitCommand}
-use Rattle.unit_run.specs.Run.{RunValues, RunEnd, unitRun}
 use Rattle.typing_keys.specs.Keys.{KeyValues, KeyEnd, unitKey}
 use Rattle.console_script.specs.Script.{restOf, requestOf}
 use Rattle.console_script.specs.declared.Request.{Request}
@@ -108,7 +108,7 @@ saidBy d line (request.Command code room) =
 saidBy d line request.Halt = said d okLine
 saidBy d line request.SwitchOpen = said (switchedOf d false) okLine
 saidBy d line request.SwitchClosed = said (switchedOf d true) okLine
-saidBy d line (request.Run room) = runSaid (unitRun (unitOf d) (sightsSent (restOf (restOf line))) (replicate (8 * room) 0))
+saidBy d line (request.Run room) = runSaid (pairRun (unitOf d) (sightsSent (restOf (restOf line))) (replicate (8 * room) 0))
 saidBy d line request.State = stateSaid d
 saidBy d line (request.Words from count) = wordsSaid d from count
 saidBy d line (request.Key number) = keySaid (unitKey (unitOf d) number)

@@ -7,13 +7,14 @@ use console_decode as decode;
 use console_phrases as phrases;
 use console_pictures as pictures;
 use console_replies as replies;
+use console_run as run;
+use console_run::RunReply;
 use console_script as script;
 use console_script::Request;
 use device_2250 as device;
 use device_2250::Device;
 use device_2250::Keyed;
 use device_2250::Loaded;
-use device_2250::Ran;
 use ground_refusals as refusals;
 use ground_refusals::Refusal;
 use ground_setup as setup;
@@ -21,8 +22,6 @@ use ground_setup::Sized;
 use typing_keys::KeyReply;
 use unit_commands::Reply;
 use unit_loading::LoadReply;
-use unit_run::RunReply;
-use unit_step as step;
 ghost use mathlib.Core.List.{[]};
 ghost use Prim.Native.Nat.{_*_, _≤_};
 ghost use lib.ListN.{length, replicate};
@@ -30,10 +29,10 @@ ghost use Rattle.console_replies.specs.Replies.{okLine, errorLine};
 ghost use Rattle.ground_refusals.specs.Refusals.{refusalNumber};
 ghost use Rattle.unit_loading.specs.Loading.{unitLoad};
 ghost use Rattle.unit_commands.specs.Commands.{commandValues, unitCommand};
-ghost use Rattle.unit_run.specs.Run.{unitRun};
-ghost use Rattle.device_2250.specs.Device.{unitOf, loadLeaves, runLeaves, keyLeaves};
+ghost use Rattle.device_2250.specs.Device.{unitOf, loadLeaves, keyLeaves};
+ghost use Rattle.console_run.specs.Pair.{runValues, pairRun};
 ghost use Rattle.console_decode.specs.Decode.{bytesIn, wordsIn, sightsIn};
-ghost use Rattle.console_session.specs.Session.{said, refusedSaid, freshSaid, loadSaid, commandTold, commandSaid, runSaid, keySaid, stateSaid, cursorSaid, wordsSaid, bytesSent, dumpSent, sightsSent, Fits, saidBy, saidOf, Speaks};
+ghost use Rattle.console_session.specs.Session.{said, refusedSaid, freshSaid, loadSaid, commandTold, commandSaid, runTold, runSaid, keySaid, stateSaid, cursorSaid, wordsSaid, bytesSent, dumpSent, sightsSent, Fits, saidBy, saidOf, Speaks};
 
 // The device after a request, and where its answer ends.
 pub struct Spoken {
@@ -180,14 +179,12 @@ fn command_text(
 }
 
 // A run's steps, end and items, or its refusal.
-fn ran_by(ran: Ran, list: &[u16], lines: &mut [u8], at: usize) -> Spoken
-    ensures { λ r. ⌜ Speaks (runSaid (runLeaves ran (now (list .entry)))) (now (lines .entry)) at (now (lines .exit)) r ⌝ }
+fn ran_by(device: Device, answer: RunReply, list: &[u16], lines: &mut [u8], at: usize) -> Spoken
+    ensures { λ r. ⌜ Speaks (runTold device (runValues answer) (now (list .entry))) (now (lines .entry)) at (now (lines .exit)) r ⌝ }
 {
-    let device = ran.device;
-    let answer = ran.answer;
     match answer {
-        RunReply::Done(steps, end, items) => {
-            let why = step::end_number(end);
+        RunReply::Done(steps, outcome, items) => {
+            let why = run::outcome_number(outcome);
             let middle = replies::put_ran(lines, at, steps, why, items);
             let end = pictures::put_items(lines, middle, list, items);
             Spoken { device, end }
@@ -198,24 +195,28 @@ fn ran_by(ran: Ran, list: &[u16], lines: &mut [u8], at: usize) -> Spoken
 
 // Runs the unit over the sights of a text, by way of so many sights, and lends it a list.
 fn run_through(
-    device: Device,
+    mut device: Device,
     text: &[u8],
     sights: &mut [u8],
     list: &mut [u16],
     lines: &mut [u8],
     at: usize,
 ) -> Spoken
-    ensures { λ r. ⌜ Speaks (runSaid (unitRun (unitOf device) (sightsIn (now (text .entry)) (length (now (sights .entry)))) (now (list .entry)))) (now (lines .entry)) at (now (lines .exit)) r ⌝ }
+    ensures { λ r. ⌜ Speaks (runSaid (pairRun (unitOf device) (sightsIn (now (text .entry)) (length (now (sights .entry)))) (now (list .entry)))) (now (lines .entry)) at (now (lines .exit)) r ⌝ }
 {
     decode::read_sights(text, sights);
-    let ran = device::run(device, sights, list);
-    ran_by(ran, list, lines, at)
+    let head = device.head;
+    let ran = run::run(&device.words, head, sights, list);
+    let after = ran.head;
+    let answer = ran.answer;
+    device.head = after;
+    ran_by(device, answer, list, lines, at)
 }
 
 // Runs the unit over the sights of a text with room for so many items.
 fn run_text(device: Device, room: usize, text: &[u8], lines: &mut [u8], at: usize) -> Spoken
     requires { ⌜ (room ≤ 4096) × (length (now text) ≤ 40000) ⌝ }
-    ensures { λ r. ⌜ Speaks (runSaid (unitRun (unitOf device) (sightsSent (now (text .entry))) (replicate (8 * room) 0))) (now (lines .entry)) at (now (lines .exit)) r ⌝ }
+    ensures { λ r. ⌜ Speaks (runSaid (pairRun (unitOf device) (sightsSent (now (text .entry))) (replicate (8 * room) 0))) (now (lines .entry)) at (now (lines .exit)) r ⌝ }
 {
     let mut sights = [0u8; 40000];
     let mut list = [0u16; 32768];

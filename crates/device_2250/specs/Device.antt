@@ -8,12 +8,12 @@ use Rattle.unit_cursor.specs.Cursor.{anySet}
 use Rattle.unit_head.specs.Head.{DisplayUnit, unit, freshUnit, switchedUnit}
 use Rattle.unit_loading.specs.Loading.{loadValues, LoadEnd}
 use Rattle.unit_commands.specs.Commands.{commandValues, CommandEnd}
-use Rattle.unit_run.specs.Run.{runValues, RunEnd}
+use Rattle.unit_advance.specs.Advance.{advanceValues, AdvanceEnd}
 use Rattle.typing_keys.specs.Keys.{keyValues, KeyEnd}
 use Rattle.device_2250.specs.declared.Device.{Device}
 use Rattle.device_2250.specs.declared.Loaded.{Loaded}
 use Rattle.device_2250.specs.declared.Answered.{Answered}
-use Rattle.device_2250.specs.declared.Ran.{Ran}
+use Rattle.device_2250.specs.declared.Advanced.{Advanced}
 use Rattle.device_2250.specs.declared.Keyed.{Keyed}
 
 -- a device is a unit, and a unit with as many words a device
@@ -42,8 +42,8 @@ loadLeaves l = record { unit = unitOf (l .device); answer = loadValues (l .answe
 abbrev pub commandLeaves : Answered → List ℕ → CommandEnd
 commandLeaves a room = record { unit = unitOf (a .device); answer = commandValues (a .answer); room = room }
 
-abbrev pub runLeaves : Ran → List ℕ → RunEnd
-runLeaves r list = record { unit = unitOf (r .device); answer = runValues (r .answer); list = list }
+abbrev pub advanceLeaves : Advanced → AdvanceEnd
+advanceLeaves a = record { unit = unitOf (a .device); answer = advanceValues (a .answer) }
 
 abbrev pub keyLeaves : Keyed → KeyEnd
 keyLeaves k = record { unit = unitOf (k .device); answer = keyValues (k .answer) }

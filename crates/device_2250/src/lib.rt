@@ -7,6 +7,8 @@ use ground_setup::Size;
 use typing_keys as keys;
 use typing_keys::HeadKeyed;
 use typing_keys::KeyReply;
+use unit_advance as advance;
+use unit_advance::AdvanceReply;
 use unit_commands as commands;
 use unit_commands::HeadAnswered;
 use unit_commands::Reply;
@@ -14,11 +16,12 @@ use unit_cursor as cursor;
 use unit_cursor::Cursor;
 use unit_head as head;
 use unit_head::Head;
+use unit_list as list;
+use unit_list::ListReply;
+use unit_list::Moves;
 use unit_loading as loading;
 use unit_loading::HeadLoaded;
 use unit_loading::LoadReply;
-use unit_run as run;
-use unit_run::RunReply;
 ghost use mathlib.Core.Path.{_≡_};
 ghost use Prim.Native.Nat.{ℕ, _<_};
 ghost use lib.ListN.{getD};
@@ -26,9 +29,10 @@ ghost use Rattle.ground_location.specs.Location.{freshWord};
 ghost use Rattle.unit_head.specs.Head.{unit};
 ghost use Rattle.unit_loading.specs.Loading.{loadEnded, unitLoad};
 ghost use Rattle.unit_commands.specs.Commands.{commandEnded, unitCommand};
-ghost use Rattle.unit_run.specs.Run.{unitRun};
+ghost use Rattle.unit_advance.specs.Advance.{unitAdvance};
+ghost use Rattle.unit_list.specs.List.{listEnded, unitList, unitMoves};
 ghost use Rattle.typing_keys.specs.Keys.{keyEnded, unitKey};
-ghost use Rattle.device_2250.specs.Device.{unitOf, freshOf, switchedOf, anyCursor, loadLeaves, commandLeaves, runLeaves, keyLeaves};
+ghost use Rattle.device_2250.specs.Device.{unitOf, freshOf, switchedOf, anyCursor, loadLeaves, commandLeaves, advanceLeaves, keyLeaves};
 
 // The whole unit: the words of its buffer; and address, mode, beam, pen, status, sense and cursor in its head.
 pub struct Device {
@@ -48,10 +52,10 @@ pub struct Answered {
     pub answer: Reply,
 }
 
-// The device after a run, and the answer.
-pub struct Ran {
+// The device after advancing, and the answer.
+pub struct Advanced {
     pub device: Device,
-    pub answer: RunReply,
+    pub answer: AdvanceReply,
 }
 
 // The device after a key, and the answer.
@@ -140,16 +144,32 @@ pub fn command(mut device: Device, code: u8, bytes: &[u8], room: &mut [u8]) -> A
     Answered { device, answer }
 }
 
-// Runs the unit, one step for each sight, and lists what is drawn, eight numbers an item.
-pub fn run(mut device: Device, sights: &[u8], out: &mut [u16]) -> Ran
-    ensures { λ r. ⌜ runLeaves r (now (out .exit)) ≡ unitRun (unitOf device) (now (sights .entry)) (now (out .entry)) ⌝ }
+// Advances the unit, one step for each sight.
+pub fn advance(mut device: Device, sights: &[u8]) -> Advanced
+    ensures { λ r. ⌜ advanceLeaves r ≡ unitAdvance (unitOf device) (now (sights .entry)) ⌝ }
 {
     let head = device.head;
-    let ran = run::run(&device.words, head, sights, out);
-    let after = ran.head;
-    let answer = ran.answer;
+    let advanced = advance::advance(&device.words, head, sights);
+    let after = advanced.head;
+    let answer = advanced.answer;
     device.head = after;
-    Ran { device, answer }
+    Advanced { device, answer }
+}
+
+// Lists what the next step draws with a sight, eight numbers an item, behind the items that the list holds.
+pub fn list(device: Device, sight: u8, held: usize, out: &mut [u16]) -> ListReply
+    ensures { λ r. ⌜ listEnded r (now (out .exit)) ≡ unitList (unitOf device) sight held (now (out .entry)) ⌝ }
+{
+    let head = device.head;
+    list::list(&device.words, head, sight, held, out)
+}
+
+// What the next step moves the beam by.
+pub fn next_move(device: Device) -> Moves
+    ensures { λ r. ⌜ r ≡ unitMoves (unitOf device) ⌝ }
+{
+    let head = device.head;
+    list::next_move(&device.words, head)
 }
 
 // Types a key at the unit of the array, lent as a slice.

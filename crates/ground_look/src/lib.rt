@@ -110,7 +110,7 @@ fn found_by(setup: Setup, at: usize, found: Found) -> Begun
 }
 
 // Whether the data of a mode are coordinates.
-fn is_placing(mode: Mode) -> bool
+pub fn is_placing(mode: Mode) -> bool
     ensures { λ r. ⌜ r ≡ placing mode ⌝ }
 {
     match mode {

@@ -1,10 +1,9 @@
 -- A step of the search goes by place and pen alone, and from a place of the buffer to a place of the buffer. Assumes nothing.
-use Prim.Native.Nat.{ℕ, zero, suc, _-_}
+use Prim.Native.Nat.{ℕ, zero, suc}
 use mathlib.Core.Path.{_≡_, refl, subst}
 use mathlib.Core.Logic.{inl, inr}
-use mathlib.Core.Bool.{Bool, true, false, cond, _&&_}
-use mathlib.Core.List.{List, [], _∷_}
-use lib.Dec.{eqb}
+use mathlib.Core.Bool.{Bool, true, false, cond}
+use mathlib.Core.List.{List}
 use Rattle.ground_setup.specs.declared.Setup.{Setup}
 use Rattle.ground_orders.specs.declared.Mode.{Mode}
 use Rattle.ground_orders.specs.declared.Mode.the-variants.{Idle}
@@ -18,12 +17,11 @@ use Rattle.validator_walks.specs.declared.Place.{Place}
 use Rattle.validator_walks.specs.Places.{place, Proper}
 use Rattle.validator_walks.specs.Steps.{Leads, stepBy}
 use Rattle.validator_walks.proofs.Looks.{look-sound}
-use Rattle.unit_drawing.specs.Drawing.{Stroke, counts, itemAddress, strokesOf, hitIn}
-use Rattle.unit_drawing.specs.declared.Hit.{Hit}
+use Rattle.unit_drawing.specs.Drawing.{strokesOf}
 use Rattle.unit_drawing.specs.declared.Hit.the-variants.{Missed}
-use Rattle.unit_drawing.specs.declared.Hit.the-variants as hit
+use Rattle.unit_drawing.proofs.Laws.{unseen}
 use Rattle.unit_head.specs.declared.State.{State}
-use Rattle.unit_step.specs.Step.{lookAt, stateAt, motionAt, hitBy, eitherBy, advanceTo, advanceWith, advanceOf}
+use Rattle.unit_step.specs.Step.{lookAt, stateAt, motionAt, hitBy, eitherBy, stepTo, stepOver, stepFrom}
 use Rattle.unit_step.specs.declared.Stepped.{Stepped}
 use Rattle.unit_step.specs.declared.Stepped.the-variants as stepped
 use Rattle.typing_seek.specs.declared.Spot.{Spot}
@@ -34,22 +32,13 @@ use Rattle.typing_jump.specs.declared.Hop.the-variants.{Ends, On}
 use Rattle.theorem_jump.specs.Jumps.{Same, ByPlaceAndPen}
 
 -- no sight falls on no item
-passed-by : (hit : Hit) (rest : ℕ → Hit) → rest 0 ≡ Missed → (b : Bool) → cond (b && eqb 0 1) hit (rest (cond b (0 - 1) 0)) ≡ Missed
-passed-by hit rest e true = e
-passed-by hit rest e false = e
-
-no-hit : (ss : List Stroke) → hitIn 0 ss ≡ Missed
-unfolding hitIn
-no-hit [] = refl
-no-hit (s ∷ ss) = passed-by (hit.At (itemAddress (s .item)) (s .end)) (λ sight. hitIn sight ss) (no-hit ss) (counts (s .item))
-
 none-seen : (b : Bool) → _≡_ {A = ℕ} (cond b 0 0) 0
 none-seen true = refl
 none-seen false = refl
 
 no-sight : (s : State) (l : Look) → hitBy s (motionAt l s) (seenOf (s .pen) 0) ≡ Missed
 unfolding seenOf
-no-sight s l = rw (none-seen (detects (s .pen))) (no-hit (strokesOf (motionAt l s) (s .beam) false false (s .setup .size) (s .address)))
+no-sight s l = rw (none-seen (detects (s .pen))) (unseen (strokesOf (motionAt l s) (s .beam) false false (s .setup .size) (s .address)))
 
 -- two steps of the search that end alike, or go on to the same place with the same pen
 abbrev SameHop : Hop → Hop → Type 0
@@ -71,7 +60,7 @@ module _ (words : List ℕ) (s : State) (running : Bool) (beam : Beam) where
   either target next true = search
   either target next false = search
 
-  by-look : (l : Look) → SameHop (hopBy (advanceTo s (beamAfter (motionAt l s) (s .beam)) Missed l) (landingBy words s l)) (hopBy (advanceTo other (beamAfter (motionAt l other) (other .beam)) Missed l) (landingBy words other l))
+  by-look : (l : Look) → SameHop (hopBy (stepTo s (beamAfter (motionAt l s) (s .beam)) Missed l) (landingBy words s l)) (hopBy (stepTo other (beamAfter (motionAt l other) (other .beam)) Missed l) (landingBy words other l))
   by-look (look.Fault f) = refl
   by-look (look.Check a) = refl
   by-look (look.Enter m next) = enters m next (landingBy words s (look.Enter m next))
@@ -85,7 +74,7 @@ module _ (words : List ℕ) (s : State) (running : Bool) (beam : Beam) where
   by-look (look.Four a b c d next) = search
 
   other-hop : SameHop (hopOf words s) (hopOf words other)
-  unfolding hopOf advanceOf advanceWith
+  unfolding hopOf stepFrom stepOver
   other-hop = rw (no-sight s (lookAt words s), no-sight other (lookAt words s)) (by-look (lookAt words s))
 
 same-hop : (words : List ℕ) (s t : State) → Same s t → SameHop (hopOf words s) (hopOf words t)
@@ -132,27 +121,27 @@ module _ (su : Setup) (s : State) (same : s .setup ≡ su) where
   placed-either target next true p q = record { same = same; proper = p }
   placed-either target next false p q = record { same = same; proper = q }
 
-  placed-advance : (l : Look) → ((q : Place) → Leads (stepBy (s .mode) l) q → Proper (su .size) q) → PlacedStep su (advanceTo s (beamAfter (motionAt l s) (s .beam)) Missed l)
-  placed-advance (look.Fault f) P = tt
-  placed-advance (look.Check a) P = tt
-  placed-advance (look.Enter m next) P = record { same = same; proper = P _ refl }
-  placed-advance (look.Pass next) P = record { same = same; proper = P _ refl }
-  placed-advance (look.Timer next) P = record { same = same; proper = P _ refl }
-  placed-advance (look.SetPen p next) P = record { same = same; proper = P _ refl }
-  placed-advance (look.End next) P = tt
-  placed-advance (look.Jump target) P = record { same = same; proper = P _ refl }
-  placed-advance (look.Either target next) P =
+  placed-step : (l : Look) → ((q : Place) → Leads (stepBy (s .mode) l) q → Proper (su .size) q) → PlacedStep su (stepTo s (beamAfter (motionAt l s) (s .beam)) Missed l)
+  placed-step (look.Fault f) P = tt
+  placed-step (look.Check a) P = tt
+  placed-step (look.Enter m next) P = record { same = same; proper = P _ refl }
+  placed-step (look.Pass next) P = record { same = same; proper = P _ refl }
+  placed-step (look.Timer next) P = record { same = same; proper = P _ refl }
+  placed-step (look.SetPen p next) P = record { same = same; proper = P _ refl }
+  placed-step (look.End next) P = tt
+  placed-step (look.Jump target) P = record { same = same; proper = P _ refl }
+  placed-step (look.Either target next) P =
       placed-either target next (transfers (s .pen)) (P (place target Idle) (inl refl)) (P (place next Idle) (inr refl))
-  placed-advance (look.Two a b next) P = record { same = same; proper = P _ refl }
-  placed-advance (look.Four a b c d next) P = record { same = same; proper = P _ refl }
+  placed-step (look.Two a b next) P = record { same = same; proper = P _ refl }
+  placed-step (look.Four a b c d next) P = record { same = same; proper = P _ refl }
 
 -- from a place of the buffer a step of the search goes on to one
 pub placed-hop : (words : List ℕ) (su : Setup) (s : State) → Placed su s → PlacedHop su (hopOf words s)
-unfolding hopOf advanceOf advanceWith
+unfolding hopOf stepFrom stepOver
 placed-hop words su s h =
     let l = lookAt words s in
-    placed-hop-by su (advanceOf s l 0) (landingBy words s l)
+    placed-hop-by su (stepFrom words s 0) (landingBy words s l)
     (rw (no-sight s l)
-    (placed-advance su s (h .same) l
+    (placed-step su s (h .same) l
     (subst (λ (z : Setup). (q : Place) → Leads (stepBy (s .mode) l) q → Proper (z .size) q) (h .same)
     (look-sound (s .setup) (wordsGroup words (s .setup)) (s .address) (s .mode) (h .proper .even)))))

@@ -32,7 +32,7 @@ use Rattle.theorem_roundtrips.proofs.RoundTrips.{tried-is, there, addressed-is,
 use Rattle.theorem_promise.specs.Promise.{Passed, LoadedWith, startedThere, Event, Never, Promise, PromiseDump, PromiseFresh, PromiseOver}
 use Rattle.theorem_promise.specs.Alarm.{Walk, NoFalseAlarm}
 use Rattle.theorem_promise.proofs.Steps.{Clear}
-use Rattle.theorem_promise.proofs.Runs.{Safe}
+use Rattle.theorem_promise.proofs.Advances.{Safe}
 use Rattle.theorem_promise.proofs.Events.{never}
 
 or-true : (b : Bool) → (b || true) ≡ true

@@ -31,9 +31,9 @@ use Rattle.typing_keys.specs.Keys.{unitKey}
 use Rattle.theorem_typing.proofs.Typing.{silent-key, head-stays}
 use Rattle.theorem_refusals.proofs.Calls.{load-refused, command-refused}
 use Rattle.theorem_promise.specs.Promise.{Event, afterEvent, NotStarted, GoesOn, Outlasts, Undisturbed, Never}
-use Rattle.theorem_promise.specs.Outlasting.{SwitchOutlasted, HaltOutlasted, LoadOutlasted, KeyOutlasted, Mild, MildOutlasted, RefusedOutlasted, RejectedOutlasted, WaitingOutlasted, StopOutlasted}
+use Rattle.theorem_promise.specs.Outlasting.{SwitchOutlasted, HaltOutlasted, ListOutlasted, LoadOutlasted, KeyOutlasted, Mild, MildOutlasted, RefusedOutlasted, RejectedOutlasted, WaitingOutlasted, StopOutlasted}
 use Rattle.theorem_promise.proofs.Steps.{Clear}
-use Rattle.theorem_promise.proofs.Runs.{Safe, run-fine}
+use Rattle.theorem_promise.proofs.Advances.{Safe, advance-fine}
 
 -- a location that is not altered carries the byte that it carried
 unaltered-location : {w v b : ℕ} → Unaltered w v → Location w b → Location v b
@@ -56,9 +56,10 @@ module _ (image : List ℕ) (su : Setup) (start : ℕ) (fits : length image ≤ 
       }
 
   event-keeps : (u : DisplayUnit) → Safe image su start clear u → (e : Event) → Undisturbed u e × (Outlasts u e → Safe image su start clear (afterEvent u e))
-  event-keeps u safe (Event.ran sights out) = let f = run-fine image su start clear u safe sights out in (f .0, λ h. f .1)
+  event-keeps u safe (Event.advanced sights) = let f = advance-fine image su start clear u safe sights in (f .0, λ h. f .1)
   event-keeps u safe (Event.switched closed) = (tt, λ g. safe-on u (switchedUnit u closed) g safe)
   event-keeps u safe Event.halted = (tt, λ g. safe)
+  event-keeps u safe (Event.listed sight held out) = (tt, λ g. safe)
   event-keeps u safe (Event.commanded code bytes room) = (tt, λ g. safe-on u (unitCommand u code bytes room .unit) g safe)
   event-keeps u safe (Event.keyed number) = (tt, λ g. safe-on u (unitKey u number .unit) g safe)
   event-keeps u safe (Event.loaded size dump) = (tt, λ g. safe-on u (unitLoad u size dump .unit) g safe)
@@ -183,6 +184,9 @@ switch-outlasted u closed = record {
   not-started = record { ran = λ r. r; setup = λ r. refl; address = λ r. refl; mode = λ r. refl };
   kept = λ k l. alike-refl (getD (u .words) k 0) .unaltered;
 }
+
+pub list-outlasted : ListOutlasted
+list-outlasted u sight held out = head-on u (u .head) refl
 
 pub halt-outlasted : HaltOutlasted
 halt-outlasted u = head-on u (u .head) refl

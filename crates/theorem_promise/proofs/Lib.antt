@@ -1,4 +1,4 @@
 pub mod Steps
-pub mod Runs
+pub mod Advances
 pub mod Events
 pub mod Demand3

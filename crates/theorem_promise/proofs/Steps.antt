@@ -23,31 +23,23 @@ use Rattle.validator_walks.specs.declared.Place.{Place}
 use Rattle.unit_drawing.specs.declared.Hit.{Hit}
 use Rattle.unit_drawing.specs.declared.Hit.the-variants as hit
 use Rattle.unit_head.specs.declared.State.{State}
-use Rattle.unit_step.specs.declared.End.{End}
-use Rattle.unit_step.specs.declared.End.the-variants as end
-use Rattle.unit_step.specs.Step.{endNumber, lookAt, motionAt, advanceTo, advanceWith, advanceOf, hitBy, eitherBy}
+use Rattle.unit_step.specs.Step.{lookAt, motionAt, stepTo, stepOver, stepFrom, hitBy, eitherBy}
+use Rattle.unit_step.specs.declared.Stop.{Stop}
+use Rattle.unit_step.specs.declared.Stop.the-variants as stop
 use Rattle.unit_step.specs.declared.Stepped.{Stepped}
 use Rattle.unit_step.specs.declared.Stepped.the-variants as stepped
+use Rattle.unit_advance.specs.Advance.{stopNumber}
 use Rattle.theorem_promise.specs.Promise.{SoundEnd}
 
--- an end of a run is sound
-abbrev pub Sound : End → Type 0
-Sound e = SoundEnd (endNumber e)
+-- a stop is sound
+abbrev pub Sound : Stop → Type 0
+Sound e = SoundEnd (stopNumber e)
 
-pub sound-used : Sound end.SightsUsed
-sound-used = record { no-fault = λ a b. omega arith; no-check = λ e. omega arith }
-
-pub sound-order : Sound end.EndOrder
+sound-order : Sound stop.EndOrder
 sound-order = record { no-fault = λ a b. omega arith; no-check = λ e. omega arith }
 
-pub sound-detect : Sound end.Detect
+sound-detect : Sound stop.Detect
 sound-detect = record { no-fault = λ a b. omega arith; no-check = λ e. omega arith }
-
-pub sound-full : Sound end.NoRoom
-sound-full = record { no-fault = λ a b. omega arith; no-check = λ e. omega arith }
-
-pub sound-stood : Sound end.NotRunning
-sound-stood = record { no-fault = λ a b. omega arith; no-check = λ e. omega arith }
 
 module _ (image : List ℕ) (su : Setup) (start : ℕ) where
   -- no walk, however long, meets a fault
@@ -79,7 +71,7 @@ module _ (image : List ℕ) (su : Setup) (start : ℕ) where
     either-kept t next e true = (runs, record { same = λ r. same; reached = λ r. goes (look.Either t next) e (place t Idle) (inl refl) })
     either-kept t next e false = (runs, record { same = λ r. same; reached = λ r. goes (look.Either t next) e (place next Idle) (inr refl) })
 
-    kept-by : (h : Hit) (l : Look) → lookOf (imageGroup image su) su (s .address) (s .mode) ≡ l → stepOf image su (place (s .address) (s .mode)) ≡ stepBy (s .mode) l → Kept (advanceTo s (beamAfter (motionAt l s) (s .beam)) h l)
+    kept-by : (h : Hit) (l : Look) → lookOf (imageGroup image su) su (s .address) (s .mode) ≡ l → stepOf image su (place (s .address) (s .mode)) ≡ stepBy (s .mode) l → Kept (stepTo s (beamAfter (motionAt l s) (s .beam)) h l)
     kept-by h (look.Fault f) e w = absurd (clear k _ (faultNumber f) here w)
     kept-by h (look.Check a) e w = absurd (no-check image su (s .address) (s .mode) a e)
     kept-by h (look.Enter m next) e w = (runs, record { same = λ r. same; reached = λ r. goes (look.Enter m next) w (place next m) refl })
@@ -95,8 +87,8 @@ module _ (image : List ℕ) (su : Setup) (start : ℕ) where
     kept-by (hit.At a b) (look.Four c d f g next) e w = (sound-detect, stood _ refl)
 
     -- a step with any sight
-    pub step-kept : (words : List ℕ) → Carries words image → (sight : ℕ) → Kept (advanceOf s (lookAt words s) sight)
-    unfolding advanceOf advanceWith stepOf
+    pub step-kept : (words : List ℕ) → Carries words image → (sight : ℕ) → Kept (stepFrom words s sight)
+    unfolding stepFrom stepOver stepOf
     step-kept words carries sight =
         let l : Look = lookAt words s in
         let at-image = same-look words image carries su (s .address) (s .mode) (λ f. clear k _ _ here (ap (stepBy (s .mode)) f)) in

@@ -1,4 +1,4 @@
--- Which events the promise outlasts: the switch and Halt I/O; a refused load; a key that stores nothing, 02, C-13: it "ends at the first key
+-- Which events the promise outlasts: listing, the switch and Halt I/O; a refused load; a key that stores nothing, 02, C-13: it "ends at the first key
 -- that stores"; and every command that is refused, rejected or answered by waiting status, or is none of Write Buffer and the two Set Buffer
 -- Address.
 use Prim.Native.Nat.{ℕ}
@@ -12,6 +12,9 @@ use Rattle.unit_commands.specs.Commands.{CommandValues, unitCommand}
 use Rattle.typing_keys.specs.Keys.{unitKey}
 use Rattle.theorem_typing.specs.Typing.{storedBy}
 use Rattle.theorem_promise.specs.Promise.{Event, Outlasts}
+
+abbrev pub ListOutlasted : Type 0
+ListOutlasted = (u : DisplayUnit) (sight held : ℕ) (out : List ℕ) → Outlasts u (Event.listed sight held out)
 
 abbrev pub SwitchOutlasted : Type 0
 SwitchOutlasted = (u : DisplayUnit) (closed : Bool) → Outlasts u (Event.switched closed)

@@ -14,7 +14,7 @@ use Rattle.unit_head.specs.declared.State.{State}
 use Rattle.unit_head.specs.Head.{DisplayUnit, sizeIn, freshUnit, switchedUnit}
 use Rattle.unit_loading.specs.Loading.{unitLoad}
 use Rattle.unit_commands.specs.Commands.{unitCommand}
-use Rattle.unit_run.specs.Run.{RunValues, unitRun}
+use Rattle.unit_advance.specs.Advance.{AdvanceValues, unitAdvance}
 use Rattle.typing_keys.specs.Keys.{unitKey}
 use Rattle.validator_verdict.specs.Verdict.{VerdictValues, triedOf, Judged}
 use Rattle.theorem_roundtrips.specs.RoundTrips.{Bytes, Quiet, addressBytes, written}
@@ -37,10 +37,11 @@ pub record LoadedWith (image : List ℕ) (size : ℕ) (u : DisplayUnit) : Type 0
 abbrev pub startedThere : DisplayUnit → ℕ → List ℕ → DisplayUnit
 startedThere u start room = unitCommand u 0x27 (addressBytes start) room .unit
 
--- what may happen to a unit: a run with any sights and any room, the switch closed or opened, Halt I/O, a command of any code with any bytes
--- and any room, a key of any number, and a load of any dump under any size
+-- what may happen to a unit: advancing with any sights, listing of any sight into any list, the switch closed or opened, Halt I/O, a command
+-- of any code with any bytes and any room, a key of any number, and a load of any dump under any size
 pub data Event : Type 0 where
-  ran : List ℕ → List ℕ → Event
+  advanced : List ℕ → Event
+  listed : ℕ → ℕ → List ℕ → Event
   switched : Bool → Event
   halted : Event
   commanded : ℕ → List ℕ → List ℕ → Event
@@ -49,7 +50,8 @@ pub data Event : Type 0 where
 
 -- the unit after it
 abbrev pub afterEvent : DisplayUnit → Event → DisplayUnit
-afterEvent u (Event.ran sights out) = unitRun u sights out .unit
+afterEvent u (Event.advanced sights) = unitAdvance u sights .unit
+afterEvent u (Event.listed sight held out) = u
 afterEvent u (Event.switched closed) = switchedUnit u closed
 afterEvent u Event.halted = u
 afterEvent u (Event.commanded code bytes room) = unitCommand u code bytes room .unit
@@ -69,31 +71,33 @@ abbrev pub BufferKept : DisplayUnit → DisplayUnit → Type 0
 BufferKept u u′ = (k : ℕ) → k < sizeOf (sizeIn u) → Unaltered (getD (u .words) k 0) (getD (u′ .words) k 0)
 
 -- THE PROMISE OUTLASTS an event that neither starts the unit anew nor alters its buffer. A stop need not be told: a unit that stands meets no
--- fault until it is started anew. A run does neither, whatever it comes to
+-- fault until it is started anew. Advancing does neither, whatever it comes to
 pub record GoesOn (u u′ : DisplayUnit) : Type 0 where
   pub not-started : NotStarted (u .head .state) (u′ .head .state)
   pub kept : BufferKept u u′
 
 abbrev pub Outlasts : DisplayUnit → Event → Type 0
-Outlasts u (Event.ran sights out) = Unit {0}
+Outlasts u (Event.advanced sights) = Unit {0}
+Outlasts u (Event.listed sight held out) = GoesOn u u
 Outlasts u (Event.switched closed) = GoesOn u (switchedUnit u closed)
 Outlasts u Event.halted = GoesOn u u
 Outlasts u (Event.commanded code bytes room) = GoesOn u (unitCommand u code bytes room .unit)
 Outlasts u (Event.keyed number) = GoesOn u (unitKey u number .unit)
 Outlasts u (Event.loaded size dump) = GoesOn u (unitLoad u size dump .unit)
 
--- an end of a run that is no fault, 1 to 5, and no data check, 8
+-- an end that is no fault, 1 to 5, and no data check, 8
 pub record SoundEnd (n : ℕ) : Type 0 where
   pub no-fault : 1 ≤ n → n ≤ 5 → ⊥
   pub no-check : n ≢ 8
 
-abbrev pub SoundAnswer : RunValues → Type 0
-SoundAnswer (RunValues.ran steps e items) = SoundEnd e
-SoundAnswer (RunValues.refused n) = Unit {0}
+abbrev pub SoundAnswer : AdvanceValues → Type 0
+SoundAnswer (AdvanceValues.advanced steps e) = SoundEnd e
+SoundAnswer (AdvanceValues.refused n) = Unit {0}
 
--- an event is no stop for a fault: only a run can be one
+-- an event is no stop for a fault: only advancing can be one
 abbrev pub Undisturbed : DisplayUnit → Event → Type 0
-Undisturbed u (Event.ran sights out) = SoundAnswer (unitRun u sights out .answer)
+Undisturbed u (Event.advanced sights) = SoundAnswer (unitAdvance u sights .answer)
+Undisturbed u (Event.listed sight held out) = Unit {0}
 Undisturbed u (Event.switched closed) = Unit {0}
 Undisturbed u Event.halted = Unit {0}
 Undisturbed u (Event.commanded code bytes room) = Unit {0}

@@ -1,9 +1,9 @@
--- Demand 1 shown for the calls of the unit: a refusal alters nothing, and no run stores. Assumes nothing.
+-- Demand 1 shown for the calls of the unit: a refusal alters nothing, and advancing never stores. Assumes nothing.
 use Prim.Native.Nat.{ℕ}
 use native.Mathlib.Omega.{arith}
 use mathlib.Core.Path.{_≡_, refl}
 use mathlib.Core.List.{List}
-use lib.Dec.{eqb}
+use lib.Dec.{eqb, leb}
 use lib.ListN.{length}
 use Rattle.ground_setup.specs.Setup.{sizeOf, sizedOf}
 use Rattle.ground_setup.specs.declared.Sized.{Sized}
@@ -18,8 +18,13 @@ use Rattle.unit_codes.specs.declared.CommandRow.{CommandRow}
 use Rattle.unit_codes.specs.declared.Sent.{Sent}
 use Rattle.unit_codes.specs.declared.Sent.the-variants as sent
 use Rattle.unit_commands.specs.Commands.{CommandValues, CommandEnd, doneOf, allowed, triedCommand, commandBy, unitCommand}
-use Rattle.unit_run.specs.Run.{RunValues, RunEnd, allSights, unitRun}
-use Rattle.theorem_refusals.specs.Refusing.{AsBefore, CommandRefused, LoadRefused, RunRefused, NeverStores}
+use Rattle.unit_items.specs.Items.{listing, listed}
+use Rattle.unit_items.specs.declared.Listing.{Listing}
+use Rattle.unit_items.specs.declared.Listing.the-variants.{Full, Held}
+use Rattle.unit_items.proofs.Laws.{full-listed}
+use Rattle.unit_advance.specs.Advance.{AdvanceValues, AdvanceEnd, allSights, goneOver, unitAdvance}
+use Rattle.unit_list.specs.List.{nextItems, ListValues, listingValues, ListEnd, unitList}
+use Rattle.theorem_refusals.specs.Refusing.{AsBefore, CommandRefused, LoadRefused, AdvanceRefused, ListRefused, FullKept, NeverStores}
 
 -- an answer that is no refusal
 abbrev Ended : CommandEnd → Type 0
@@ -76,22 +81,43 @@ pub load-refused : LoadRefused
 unfolding unitLoad
 load-refused u size dump = loaded-by u dump (sizedOf size)
 
-module _ (u : DisplayUnit) (out : List ℕ) where
-  abbrev Refused : RunEnd → Type 0
-  Refused r = (n : ℕ) → r .answer ≡ RunValues.refused n → AsBefore u (r .unit) out (r .list)
+advanced-on : (steps why n : ℕ) {A : Type 0} → AdvanceValues.advanced steps why ≡ AdvanceValues.refused n → A
+advanced-on steps why n e = let z : _≡_ {A = ℕ} 0 1 = cc in absurd (omega arith)
 
-  ran-on : (steps why items n : ℕ) {A : Type 0} → RunValues.ran steps why items ≡ RunValues.refused n → A
-  ran-on steps why items n e = let z : _≡_ {A = ℕ} 0 1 = cc in absurd (omega arith)
+pub advance-refused : AdvanceRefused
+unfolding unitAdvance goneOver
+advance-refused u sights =
+    either-way (λ (r : AdvanceEnd). (n : ℕ) → r .answer ≡ AdvanceValues.refused n → r .unit ≡ u) (allSights sights)
+    (λ n e. advanced-on _ _ n e) (λ n e. refl)
 
-pub run-refused : RunRefused
-unfolding unitRun
-run-refused u sights out =
-    either-way (Refused u out) (allSights sights)
-    (either-way (Refused u out) (u .head .state .running) (λ n e. ran-on u out _ _ _ n e) (λ n e. ran-on u out _ _ _ n e))
-    (λ n e. record { unit = refl; memory = refl })
+module _ (u : DisplayUnit) (sight held : ℕ) (out : List ℕ) where
+  abbrev Refused : ListEnd → Type 0
+  Refused r = (n : ℕ) → r .answer ≡ ListValues.refused n → r .list ≡ out
+
+  abbrev Fully : ListEnd → Type 0
+  Fully r = r .answer ≡ ListValues.full → r .list ≡ out
+
+  abbrev put : Listing → ListEnd
+  put l = record { answer = listingValues l; list = listed out held (nextItems u sight) }
+
+  put-on : (l : Listing) → Refused (put l)
+  put-on Full n e = let z : _≡_ {A = ℕ} 0 1 = cc in absurd (omega arith)
+  put-on (Held k) n e = let z : _≡_ {A = ℕ} 0 1 = cc in absurd (omega arith)
+
+  put-full : (l : Listing) → listing (length out) held (nextItems u sight) ≡ l → Fully (put l)
+  put-full Full h e = full-listed out held (nextItems u sight) h
+  put-full (Held k) h e = let z : _≡_ {A = ℕ} 0 1 = cc in absurd (omega arith)
+
+pub list-refused : ListRefused
+unfolding unitList
+list-refused u sight held out =
+    either-way (Refused u sight held out) (leb sight 2) (put-on u sight held out (listing (length out) held (nextItems u sight))) (λ n e. refl)
+
+pub full-kept : FullKept
+unfolding unitList
+full-kept u sight held out =
+    either-way (Fully u sight held out) (leb sight 2) (put-full u sight held out (listing (length out) held (nextItems u sight)) refl) (λ e. refl)
 
 pub never-stores : NeverStores
-unfolding unitRun
-never-stores u sights out =
-    either-way (λ (r : RunEnd). r .unit .words ≡ u .words) (allSights sights)
-    (either-way (λ (r : RunEnd). r .unit .words ≡ u .words) (u .head .state .running) refl refl) refl
+unfolding unitAdvance goneOver
+never-stores u sights = either-way (λ (r : AdvanceEnd). r .unit .words ≡ u .words) (allSights sights) refl refl

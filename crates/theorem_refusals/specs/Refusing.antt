@@ -6,7 +6,8 @@ use mathlib.Core.List.{List}
 use Rattle.unit_head.specs.Head.{DisplayUnit}
 use Rattle.unit_loading.specs.Loading.{LoadValues, unitLoad}
 use Rattle.unit_commands.specs.Commands.{CommandValues, unitCommand}
-use Rattle.unit_run.specs.Run.{RunValues, unitRun}
+use Rattle.unit_advance.specs.Advance.{AdvanceValues, unitAdvance}
+use Rattle.unit_list.specs.List.{ListValues, unitList}
 use Rattle.validator_verdict.specs.Verdict.{VerdictValues, Tried, Judged}
 
 -- a unit and a lent memory that are as they were
@@ -26,12 +27,23 @@ abbrev pub LoadRefused : Type 0
 LoadRefused =
     (u : DisplayUnit) (size : ℕ) (dump : List ℕ) (n : ℕ) → unitLoad u size dump .answer ≡ LoadValues.refused n → unitLoad u size dump .unit ≡ u
 
--- a run whose sights are refused alters neither the unit nor the list
-abbrev pub RunRefused : Type 0
-RunRefused =
-    (u : DisplayUnit) (sights out : List ℕ) (n : ℕ)
-    → unitRun u sights out .answer ≡ RunValues.refused n
-    → AsBefore u (unitRun u sights out .unit) out (unitRun u sights out .list)
+-- advancing whose sights are refused does not alter the unit
+abbrev pub AdvanceRefused : Type 0
+AdvanceRefused =
+    (u : DisplayUnit) (sights : List ℕ) (n : ℕ) → unitAdvance u sights .answer ≡ AdvanceValues.refused n → unitAdvance u sights .unit ≡ u
+
+-- listing whose sight is refused does not alter the list; nor does listing into one that is full
+abbrev pub ListRefused : Type 0
+ListRefused =
+    (u : DisplayUnit) (sight held : ℕ) (out : List ℕ) (n : ℕ)
+    → unitList u sight held out .answer ≡ ListValues.refused n
+    → unitList u sight held out .list ≡ out
+
+abbrev pub FullKept : Type 0
+FullKept =
+    (u : DisplayUnit) (sight held : ℕ) (out : List ℕ)
+    → unitList u sight held out .answer ≡ ListValues.full
+    → unitList u sight held out .list ≡ out
 
 -- an image that is refused does not alter the working store
 abbrev pub ImageRefused : Type 0
@@ -41,6 +53,6 @@ ImageRefused =
     → v ≡ VerdictValues.refused n
     → left ≡ store
 
--- "Regeneration never stores": no run changes a word
+-- "Regeneration never stores": advancing changes no word
 abbrev pub NeverStores : Type 0
-NeverStores = (u : DisplayUnit) (sights out : List ℕ) → unitRun u sights out .unit .words ≡ u .words
+NeverStores = (u : DisplayUnit) (sights : List ℕ) → unitAdvance u sights .unit .words ≡ u .words

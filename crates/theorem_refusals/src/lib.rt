@@ -1,1 +1,1 @@
-// Theorems only: a refusal alters nothing, and no run stores. What they say stands in `specs/`.
+// Theorems only: a refusal alters nothing, and advancing never stores. What they say stands in `specs/`.

@@ -34,18 +34,18 @@ use Rattle.unit_codes.proofs.Rows.{RowFits, row-fits}
 use Rattle.unit_buffer.specs.Buffer.{bytesWritten}
 use Rattle.unit_commands.specs.Commands.{CommandEnd, waitingOf, reset, readBy, doneOf, allowed, rejectedOf, triedCommand, commandBy, unitCommand}
 use Rattle.unit_commands.proofs.Laws.{stopped-by}
-use Rattle.unit_step.specs.declared.End.the-variants as end
-use Rattle.unit_run.specs.declared.Progress.{Progress}
-use Rattle.unit_run.specs.Run.{RunEnd, progress, runFrom, outFrom, allSights, ranBy, unitRun}
+use Rattle.unit_advance.specs.declared.End.the-variants as end
+use Rattle.unit_advance.specs.declared.Progress.{Progress}
+use Rattle.unit_advance.specs.Advance.{progress, progressOver, allSights, AdvanceEnd, advancedBy, goneOver, unitAdvance}
 use Rattle.theorem_roundtrips.specs.RoundTrips.{Bytes}
 use Rattle.typing_keys.specs.Keys.{KeyEnd}
 use Rattle.theorem_typing.proofs.Each.{each}
 use Rattle.theorem_typing.proofs.Typing.{key-typeable}
-use Rattle.theorem_wellmade.specs.Calls.{Houses, FreshWell, LoadWell, SwitchWell, CommandWell, RunWell, KeyWell}
+use Rattle.theorem_wellmade.specs.Calls.{Houses, FreshWell, LoadWell, SwitchWell, CommandWell, AdvanceWell, KeyWell}
 use Rattle.theorem_wellmade.specs.WellMade.{BufferMade, WellMade}
 use Rattle.theorem_wellmade.proofs.Stores.{behind-inside, read-inside, written-made, set-made, cleared-made, moved-made, typed-made, fresh-made, dump-made}
 use Rattle.theorem_wellmade.proofs.Pens.{fresh-pen, switched-made}
-use Rattle.theorem_wellmade.proofs.Steps.{RunMade, run-made}
+use Rattle.theorem_wellmade.proofs.Steps.{AdvanceMade, advance-made}
 
 -- a fresh head over a well-made buffer
 fresh-with : (n : ℕ) (s : Size) (b : Buffer) → BufferMade n s b → WellMade n (unit (b .words) (freshHead s (b .cursor)))
@@ -91,21 +91,25 @@ module _ (n : ℕ) (u : DisplayUnit) (m : WellMade n u) where
     loaded-by dump (sized.Refused r) = m
     loaded-by dump (sized.Of z) = dump-by z dump (eqb (length dump) (sizeOf z)) (allProper dump) refl refl
 
-  -- what a run has come to
-  after-well : (p : Progress) (list : List ℕ) → RunMade (u .head .state) (p .state) (p .end) → (p .state .running ≡ true → u .head .state .running ≡ true)
-      → WellMade n (ranBy u p list .unit)
-  after-well p list h ran = record {
-    buffer = subst (λ (x : Setup). BufferMade n (x .size) b) (sym (h .onward .same)) (m .buffer);
-    state = h .onward .made;
+  -- where advancing has come to
+  after-well : (p : Progress) → AdvanceMade (u .head .state) (p .state) (p .end) → (p .state .running ≡ true → u .head .state .running ≡ true)
+      → WellMade n (advancedBy u p .unit)
+  after-well p h ran = record {
+    buffer = subst (λ (x : Setup). BufferMade n (x .size) b) (sym (h .onto .same)) (m .buffer);
+    state = h .onto .made;
     clear = λ r. h .quiet r (u .head .status) ∙ m .clear (ran r);
   }
 
-  run-by : (sights out : List ℕ) (t : Bool) → u .head .state .running ≡ t
-      → WellMade n (cond t (ranBy u (runFrom b sights (u .head .state) 0 0 out) (outFrom b sights (u .head .state) 0 out)) (ranBy u (progress (u .head .state) 0 0 end.NotRunning) out) .unit)
-  run-by sights out true r =
-      after-well (runFrom b sights (u .head .state) 0 0 out) (outFrom b sights (u .head .state) 0 out) (run-made b sights (u .head .state) 0 0 out r (m .state)) (λ _. r)
-  run-by sights out false r =
-      after-well (progress (u .head .state) 0 0 end.NotRunning) out (record { onward = record { same = refl; made = m .state }; quiet = λ _ status. refl }) (λ e. e)
+  over-well : (sights : List ℕ) → WellMade n (goneOver u sights .unit)
+  unfolding goneOver
+  over-well sights = by (u .head .state .running) refl
+    where
+      by : (t : Bool) → u .head .state .running ≡ t
+          → WellMade n (advancedBy u (cond t (progressOver (u .words) sights (u .head .state)) (progress (u .head .state) 0 end.NotRunning)) .unit)
+      by true r = after-well (progressOver (u .words) sights (u .head .state)) (advance-made (u .words) sights (u .head .state) r (m .state)) (λ _. r)
+      by false r =
+          after-well (progress (u .head .state) 0 end.NotRunning)
+          (record { onto = record { same = refl; made = m .state }; quiet = λ _ status. refl }) (λ e. e)
 
   abbrev Leaves : CommandEnd → Type 0
   Leaves o = WellMade n (o .unit)
@@ -205,10 +209,9 @@ unfolding unitCommand
 command-well n u m code bytes room small =
     command-by n u m bytes room small (rowOf code) (row-fits code) (sentBy (sizeIn u) (rowOf code .takes) bytes) refl
 
-pub run-well : RunWell
-unfolding unitRun
-run-well n u m sights out =
-    either-way (λ (r : RunEnd). WellMade n (r .unit)) (allSights sights) (run-by n u m sights out (u .head .state .running) refl) m
+pub advance-well : AdvanceWell
+unfolding unitAdvance
+advance-well n u m sights = either-way (λ (r : AdvanceEnd). WellMade n (r .unit)) (allSights sights) (over-well n u m sights) m
 
 pub key-well : KeyWell
 key-well n u m number =

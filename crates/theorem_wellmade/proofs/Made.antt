@@ -4,14 +4,15 @@ use Rattle.device_2250.specs.declared.Device.{Device}
 use Rattle.device_2250.specs.Device.{unitOf, freshOf}
 use Rattle.device_2250.proofs.Laws.{houses}
 use Rattle.theorem_wellmade.specs.Made.{DeviceMade, Call, afterCall, afterCalls, AllSentBytes, CallKeeps, MadeWell}
-use Rattle.theorem_wellmade.proofs.Calls.{fresh-well, load-well, switch-well, command-well, run-well, key-well}
+use Rattle.theorem_wellmade.proofs.Calls.{fresh-well, load-well, switch-well, command-well, advance-well, key-well}
 
 pub call-keeps : CallKeeps
 call-keeps d m (Call.load size dump) sent = load-well 8192 houses (unitOf d) m size dump
 call-keeps d m (Call.switch closed) sent = switch-well 8192 (unitOf d) m closed
 call-keeps d m Call.halt sent = m
 call-keeps d m (Call.command code bytes room) sent = command-well 8192 (unitOf d) m code bytes room sent
-call-keeps d m (Call.run sights out) sent = run-well 8192 (unitOf d) m sights out
+call-keeps d m (Call.advance sights) sent = advance-well 8192 (unitOf d) m sights
+call-keeps d m (Call.list sight held out) sent = m
 call-keeps d m (Call.key number) sent = key-well 8192 (unitOf d) m number
 
 all-keep : (d : Device) → DeviceMade d → (calls : List Call) → AllSentBytes calls → DeviceMade (afterCalls d calls)

@@ -1,4 +1,4 @@
--- Demand 1: every call of a well-made unit gives a well-made unit. Halt I/O is left out: it gives the unit back as it was.
+-- Demand 1: every call of a well-made unit gives a well-made unit. Halt I/O and listing are left out: they alter no unit.
 use Prim.Native.Nat.{ℕ, _≤_}
 use mathlib.Core.Bool.{Bool}
 use mathlib.Core.List.{List}
@@ -7,7 +7,7 @@ use Rattle.ground_setup.specs.declared.Size.{Size}
 use Rattle.unit_head.specs.Head.{DisplayUnit, freshUnit, switchedUnit}
 use Rattle.unit_loading.specs.Loading.{unitLoad}
 use Rattle.unit_commands.specs.Commands.{unitCommand}
-use Rattle.unit_run.specs.Run.{unitRun}
+use Rattle.unit_advance.specs.Advance.{unitAdvance}
 use Rattle.typing_keys.specs.Keys.{unitKey}
 use Rattle.theorem_roundtrips.specs.RoundTrips.{Bytes}
 use Rattle.theorem_wellmade.specs.WellMade.{WellMade}
@@ -37,9 +37,9 @@ CommandWell =
     → Bytes bytes
     → WellMade n (unitCommand u code bytes room .unit)
 
--- a run, with any sights and any room for its list
-abbrev pub RunWell : Type 0
-RunWell = (n : ℕ) (u : DisplayUnit) → WellMade n u → (sights out : List ℕ) → WellMade n (unitRun u sights out .unit)
+-- advancing, with any sights
+abbrev pub AdvanceWell : Type 0
+AdvanceWell = (n : ℕ) (u : DisplayUnit) → WellMade n u → (sights : List ℕ) → WellMade n (unitAdvance u sights .unit)
 
 -- a key, of any number
 abbrev pub KeyWell : Type 0

@@ -6,7 +6,7 @@ use Rattle.ground_setup.specs.declared.Size.{Size}
 use Rattle.device_2250.specs.declared.Device.{Device}
 use Rattle.unit_loading.specs.Loading.{unitLoad}
 use Rattle.unit_commands.specs.Commands.{unitCommand}
-use Rattle.unit_run.specs.Run.{unitRun}
+use Rattle.unit_advance.specs.Advance.{unitAdvance}
 use Rattle.typing_keys.specs.Keys.{unitKey}
 use Rattle.device_2250.specs.Device.{unitOf, deviceOf, freshOf, switchedOf}
 use Rattle.theorem_roundtrips.specs.RoundTrips.{Bytes}
@@ -22,16 +22,18 @@ pub data Call : Type 0 where
   switch : Bool → Call
   halt : Call
   command : ℕ → List ℕ → List ℕ → Call
-  run : List ℕ → List ℕ → Call
+  advance : List ℕ → Call
+  list : ℕ → ℕ → List ℕ → Call
   key : ℕ → Call
 
--- the device after it
+-- the device after it: listing alters none
 abbrev pub afterCall : Device → Call → Device
 afterCall d (Call.load size dump) = deviceOf (unitLoad (unitOf d) size dump .unit)
 afterCall d (Call.switch closed) = switchedOf d closed
 afterCall d Call.halt = d
 afterCall d (Call.command code bytes room) = deviceOf (unitCommand (unitOf d) code bytes room .unit)
-afterCall d (Call.run sights out) = deviceOf (unitRun (unitOf d) sights out .unit)
+afterCall d (Call.advance sights) = deviceOf (unitAdvance (unitOf d) sights .unit)
+afterCall d (Call.list sight held out) = d
 afterCall d (Call.key number) = deviceOf (unitKey (unitOf d) number .unit)
 
 -- what is sent with a command are bytes
@@ -40,7 +42,8 @@ SentBytes (Call.load size dump) = Unit {0}
 SentBytes (Call.switch closed) = Unit {0}
 SentBytes Call.halt = Unit {0}
 SentBytes (Call.command code bytes room) = Bytes bytes
-SentBytes (Call.run sights out) = Unit {0}
+SentBytes (Call.advance sights) = Unit {0}
+SentBytes (Call.list sight held out) = Unit {0}
 SentBytes (Call.key number) = Unit {0}
 
 -- the device after the calls, one after the other

@@ -9,7 +9,7 @@ use Rattle.ground_orders.specs.declared.Mode.{Mode}
 use Rattle.ground_look.specs.declared.Look.{Look}
 use Rattle.ground_look.specs.declared.Look.the-variants as look
 use Rattle.unit_head.specs.declared.State.{State}
-use Rattle.unit_step.specs.Step.{lookAt, stateAt, advanceOf}
+use Rattle.unit_step.specs.Step.{lookAt, stateAt, stepFrom}
 use Rattle.unit_step.specs.declared.Stepped.{Stepped}
 use Rattle.unit_step.specs.declared.Stepped.the-variants as stepped
 use Rattle.typing_signs.specs.Signs.{codeAt, evenOf, orderAt}
@@ -53,7 +53,7 @@ hopBy next Nowhere = steppedBy next
 
 -- "with the device's own step and pen and no sight"
 unfoldable pub hopOf : List ℕ → State → Hop
-hopOf words s = hopBy (advanceOf s (lookAt words s) 0) (landingBy words s (lookAt words s))
+hopOf words s = hopBy (stepFrom words s 0) (landingBy words s (lookAt words s))
 
 abbrev pub jumpBy : (State → Spot) → Hop → Spot
 jumpBy more (Ends p) = p

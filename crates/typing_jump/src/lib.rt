@@ -11,7 +11,6 @@ use typing_fields::Field;
 use typing_seek::Spot;
 use typing_signs as signs;
 use unit_head::State;
-use unit_motion as motion;
 use unit_step as step;
 use unit_step::Stepped;
 ghost use mathlib.Core.Path.{_≡_};
@@ -108,11 +107,12 @@ fn hop_of(words: &[u16], state: State) -> Hop
 {
     let setup = state.setup;
     let mode = state.mode;
-    let beam = state.beam;
-    let look = look::look_at(words, setup, state.address, mode);
-    let spot = landing(words, state, look);
-    let motion = motion::motion_of(look, mode, beam);
-    hop_by(step::advance(state, look, motion, 0), spot)
+    let spot = landing(
+        words,
+        state,
+        look::look_at(words, setup, state.address, mode),
+    );
+    hop_by(step::step_from(words, state, 0), spot)
 }
 
 // A search of at most n steps.

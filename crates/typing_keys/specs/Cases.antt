@@ -19,7 +19,7 @@ use Rattle.unit_beam.specs.Beam.{blankedPlace}
 use Rattle.unit_drawing.specs.Drawing.{codeStrokes, codesStrokes, strokesOf, hasCursor, hitIn}
 use Rattle.unit_cursor.specs.Cursor.{cursors, cursorsIn, recounted, setHere, bareAt, clearedHere}
 use Rattle.unit_head.specs.Head.{DisplayUnit, unit, freshHead}
-use Rattle.unit_step.specs.Step.{advanceOf, advanceWith}
+use Rattle.unit_step.specs.Step.{stepFrom, stepOver}
 use Rattle.typing_signs.specs.Signs.{byteAt, codeAt, orderAt, lineAt}
 use Rattle.typing_seek.specs.Seek.{orderFrom, cursorFrom, cursorIn, orderBehind}
 use Rattle.typing_moves.specs.Moves.{restFrom, goesTo}
@@ -177,5 +177,5 @@ expected c = record { words = c .after; counted = true; answer = c .answer }
 
 -- each case of the table holds
 pub key-cases : map results keyCases ≡ map expected keyCases
-unfolding unitKey numberedOf letterOf signOf actOf characterOf cursorMoved characterStored setHere bareAt clearedHere cursorsIn recounted cursorIn cursorFrom orderBehind orderFrom goesTo restFrom byteAt codeAt orderAt lineAt fieldOf codeField jumpOf jumpFrom hopOf advanceOf advanceWith seenOf detects timed hitIn strokesOf codesStrokes codeStrokes hasCursor draws motionOf twoOf fourOf blankedPlace lookOf wordsGroup wordOf orderOf findIn table ones onesIn
+unfolding unitKey numberedOf letterOf signOf actOf characterOf cursorMoved characterStored setHere bareAt clearedHere cursorsIn recounted cursorIn cursorFrom orderBehind orderFrom goesTo restFrom byteAt codeAt orderAt lineAt fieldOf codeField jumpOf jumpFrom hopOf stepFrom stepOver seenOf detects timed hitIn strokesOf codesStrokes codeStrokes hasCursor draws motionOf twoOf fourOf blankedPlace lookOf wordsGroup wordOf orderOf findIn table ones onesIn
 key-cases = refl

@@ -1,5 +1,5 @@
--- Laws of what a step draws: a sight over one item, and over a code with more behind it; that cursors are not counted; and that the item
--- hit is the last that is drawn.
+-- Laws of what a step draws: a sight over one item, and over a code with more behind it; that cursors are not counted; that the item hit is
+-- the last that is drawn; and that no sight hits none.
 use Prim.Native.Nat.{ℕ, _-_}
 use mathlib.Core.Path.{_≡_, refl, ap, sym, _∙_}
 use mathlib.Core.Bool.{Bool, true, false, cond, _&&_}
@@ -13,6 +13,7 @@ use Rattle.unit_items.specs.declared.Item.{Item}
 use Rattle.unit_motion.specs.declared.Motion.{Motion}
 use Rattle.unit_motion.specs.declared.Motion.the-variants.{Still, To, Codes}
 use Rattle.unit_motion.specs.Codes.{draws, afterCode}
+use Rattle.unit_drawing.specs.declared.Hit.{Hit}
 use Rattle.unit_drawing.specs.declared.Hit.the-variants.{Missed, At}
 use Rattle.unit_drawing.specs.Drawing.{Stroke, stroke, characterAt, cursorAt, hasCursor, codeStrokes, codesStrokes, strokesOf, counts, itemAddress, falls, left, upto, hitIn}
 
@@ -115,3 +116,13 @@ pub hit-last : (ss : List Stroke) (sight at : ℕ) (end : Beam) → hitIn sight 
 unfolding hitIn
 hit-last [] sight at end h = let z : _≡_ {A = ℕ} 0 1 = cc in absurd (omega arith)
 hit-last (s ∷ ss) sight at end h = last-by s ss sight at end (falls sight (s .item)) refl (hit-last ss (left sight (s .item)) at end) h
+
+-- "0 none": no sight falls on no item
+unseen-by : (h : Hit) (rest : ℕ → Hit) → rest 0 ≡ Missed → (b : Bool) → cond (b && eqb 0 1) h (rest (cond b (0 - 1) 0)) ≡ Missed
+unseen-by h rest e true = e
+unseen-by h rest e false = e
+
+pub unseen : (ss : List Stroke) → hitIn 0 ss ≡ Missed
+unfolding hitIn
+unseen [] = refl
+unseen (s ∷ ss) = unseen-by (At (itemAddress (s .item)) (s .end)) (λ sight. hitIn sight ss) (unseen ss) (counts (s .item))

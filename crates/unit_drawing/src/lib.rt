@@ -16,7 +16,7 @@ ghost use Prim.Native.Nat.{_-_};
 ghost use lib.Dec.{eqb};
 ghost use Rattle.unit_items.specs.Items.{itemsIn, itemsOf};
 ghost use Rattle.ground_setup.specs.Setup.{wrapOf, aheadOf};
-ghost use Rattle.unit_drawing.specs.Drawing.{showsCursor, characterAt, cursorAt, traceStrokes, hasCursor, codeStrokes, codesStrokes, strokesOf, firstStrokes, upto, hitIn};
+ghost use Rattle.unit_drawing.specs.Drawing.{showsCursor, pointAt, vectorAt, characterAt, cursorAt, traceStrokes, hasCursor, codeStrokes, codesStrokes, strokesOf, firstStrokes, upto, hitIn};
 
 // The item that a sight falls on: its address, and the beam at its end.
 pub enum Hit {
@@ -123,29 +123,43 @@ pub fn hit_of(motion: Motion, beam: Beam, size: Size, at: usize, sight: u8) -> H
     }
 }
 
+// The point at a place.
+pub fn point(to: Beam, at: u16) -> Item
+    ensures { λ r. ⌜ r ≡ pointAt to at ⌝ }
+{
+    Item::Point {
+        x: to.x % 1024,
+        y: to.y % 1024,
+        at: at,
+    }
+}
+
+// The vector from a place to another.
+pub fn vector(from: Beam, to: Beam, at: u16) -> Item
+    ensures { λ r. ⌜ r ≡ vectorAt from to at ⌝ }
+{
+    Item::Vector {
+        from_x: from.x % 1024,
+        from_y: from.y % 1024,
+        x: to.x % 1024,
+        y: to.y % 1024,
+        at: at,
+    }
+}
+
 // What coordinates draw.
 fn trace_part(trace: Trace, beam: Beam, to: Beam, at: u16, sight: u8) -> Part
     ensures { λ r. ⌜ itemsIn r ≡ upto sight (traceStrokes trace beam to at) ⌝ }
 {
     match trace {
         Trace::Blanked => Part::Nothing,
-        Trace::Point => Part::One(Item::Point {
-            x: to.x % 1024,
-            y: to.y % 1024,
-            at: at,
-        }),
-        Trace::Vector => Part::One(Item::Vector {
-            from_x: beam.x % 1024,
-            from_y: beam.y % 1024,
-            x: to.x % 1024,
-            y: to.y % 1024,
-            at: at,
-        }),
+        Trace::Point => Part::One(point(to, at)),
+        Trace::Vector => Part::One(vector(beam, to, at)),
     }
 }
 
 // The character of a code.
-fn character(size: CharacterSize, code: u8, beam: Beam, at: u16) -> Item
+pub fn character(size: CharacterSize, code: u8, beam: Beam, at: u16) -> Item
     ensures { λ r. ⌜ r ≡ characterAt size code beam at ⌝ }
 {
     Item::Character {
@@ -158,7 +172,7 @@ fn character(size: CharacterSize, code: u8, beam: Beam, at: u16) -> Item
 }
 
 // The cursor of a code.
-fn cursor(size: CharacterSize, code: u8, beam: Beam, at: u16) -> Item
+pub fn cursor(size: CharacterSize, code: u8, beam: Beam, at: u16) -> Item
     ensures { λ r. ⌜ r ≡ cursorAt size code beam at ⌝ }
 {
     Item::Cursor {
@@ -171,7 +185,7 @@ fn cursor(size: CharacterSize, code: u8, beam: Beam, at: u16) -> Item
 }
 
 // Whether a code's cursor is drawn.
-fn has_cursor(marked: bool, code: u8) -> bool
+pub fn has_cursor(marked: bool, code: u8) -> bool
     ensures { λ r. ⌜ r ≡ hasCursor marked code ⌝ }
 {
     if marked { shows_cursor(code) } else { false }

@@ -1,5 +1,5 @@
 -- Drawn items (01, "Drawn item") and the list that takes them.
-use Prim.Native.Nat.{ℕ, _+_, _*_, _/_}
+use Prim.Native.Nat.{ℕ, _+_, _-_, _*_, _/_}
 use mathlib.Core.Bool.{Bool, cond}
 use mathlib.Core.List.{List, [], _∷_, _++_}
 use lib.ListN.{length}
@@ -13,7 +13,7 @@ use Rattle.unit_items.specs.declared.Part.{Part}
 use Rattle.unit_items.specs.declared.Part.the-variants.{Nothing, One, Two}
 use Rattle.unit_items.specs.declared.Drawn.{Drawn}
 use Rattle.unit_items.specs.declared.Listing.{Listing}
-use Rattle.unit_items.specs.declared.Listing.the-variants.{Full, Next}
+use Rattle.unit_items.specs.declared.Listing.the-variants.{Full, Held}
 
 -- "size (1 basic, 2 large)"
 abbrev pub sizeNumber : CharacterSize → ℕ
@@ -42,14 +42,15 @@ itemsIn (Two i j) = i ∷ j ∷ []
 unfoldable pub itemsOf : Drawn → List Item
 itemsOf d = itemsIn (d .first) ++ itemsIn (d .second)
 
--- whether items fit a list of so many numbers behind those that it has
+-- whether items fit a list of so many numbers, eight an item, behind those that it holds: where it is told to hold more than it has room for,
+-- none is left
 abbrev pub fits : ℕ → ℕ → List Item → Bool
-fits room have items = leb (have + length items) (room / 8)
+fits room held items = leb (length items) (room / 8 - held)
 
--- how many items the list has afterwards, if they fit
+-- how many items the list holds afterwards, if they fit
 unfoldable pub listing : ℕ → ℕ → List Item → Listing
-listing room have items = cond (fits room have items) (Next (have + length items)) Full
+listing room held items = cond (fits room held items) (Held (held + length items)) Full
 
--- the list afterwards: their numbers stand behind those of the items that it has; a list with no room for all stays as it was
+-- the list afterwards: their numbers stand behind those of the items that it holds; a list with no room for all stays as it was
 unfoldable pub listed : List ℕ → ℕ → List Item → List ℕ
-listed out have items = cond (fits (length out) have items) (sets out (have * 8) (numbers items)) out
+listed out held items = cond (fits (length out) held items) (sets out (held * 8) (numbers items)) out

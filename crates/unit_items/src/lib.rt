@@ -1,8 +1,9 @@
 // Drawn items: the four cases of one, what a step may draw, and the list that is lent for them, eight numbers to an item.
 use unit_beam::CharacterSize;
 ghost use mathlib.Core.Path.{_≡_};
+ghost use mathlib.Core.Bool.{cond};
 ghost use mathlib.Core.List.{[], _∷_};
-ghost use Prim.Native.Nat.{_+_, _*_, _/_, _≤_};
+ghost use Prim.Native.Nat.{_+_, _-_, _*_, _≤_};
 ghost use lib.ListN.{length};
 ghost use lib.Seq.{sets};
 ghost use lib.Dec.{leb};
@@ -51,10 +52,10 @@ pub struct Drawn {
     pub second: Part,
 }
 
-// Whether a list took the items: how many it then has.
+// Whether a list took the items: how many it then holds.
 pub enum Listing {
     Full,
-    Next(usize),
+    Held(usize),
 }
 
 // A character size's number.
@@ -139,30 +140,56 @@ fn put_part(out: &mut [u16], at: usize, part: Part)
     }
 }
 
-// Whether so many items more fit a list with room for some.
-fn has_room(index: usize, items: usize, room: usize) -> bool
-    ensures { λ r. ⌜ r ≡ leb (index + items) room ⌝ }
+// Whether so many items fit a list with room for some, behind those that it holds.
+fn has_room(held: usize, items: usize, room: usize) -> bool
+    ensures { λ r. ⌜ r ≡ leb items (room - held) ⌝ }
 {
-    if items <= room {
-        if index <= room - items { true } else { false }
+    if held <= room {
+        if items <= room - held { true } else { false }
     } else {
-        false
+        items == 0
     }
 }
 
-// The items are put into the list behind those that it has, where they all fit.
-pub fn list(out: &mut [u16], index: usize, drawn: Drawn) -> Listing
-    ensures { λ r. ⌜ (r ≡ listing (length (now (out .entry))) index (itemsOf drawn)) × (now (out .exit) ≡ listed (now (out .entry)) index (itemsOf drawn)) ⌝ }
+// The items are put into the list behind those that it holds, where they all fit.
+pub fn list(out: &mut [u16], held: usize, drawn: Drawn) -> Listing
+    ensures { λ r. ⌜ (r ≡ listing (length (now (out .entry))) held (itemsOf drawn)) × (now (out .exit) ≡ listed (now (out .entry)) held (itemsOf drawn)) ⌝ }
 {
     let first = drawn.first;
     let second = drawn.second;
     let n = count(first);
     let all = n + count(second);
-    if has_room(index, all, out.len() / 8) {
-        put_part(out, index * 8, first);
-        put_part(out, (index + n) * 8, second);
-        Listing::Next(index + all)
+    if all == 0 {
+        return Listing::Held(held);
+    }
+    if has_room(held, all, out.len() / 8) {
+        put_part(out, held * 8, first);
+        put_part(out, (held + n) * 8, second);
+        Listing::Held(held + all)
     } else {
         Listing::Full
+    }
+}
+
+// One item is put into the list behind those that it holds, where it fits.
+fn list_item(out: &mut [u16], held: usize, item: Item) -> Listing
+    ensures { λ r. ⌜ (r ≡ listing (length (now (out .entry))) held (item ∷ [])) × (now (out .exit) ≡ listed (now (out .entry)) held (item ∷ [])) ⌝ }
+{
+    if held < out.len() / 8 {
+        put_item(out, held * 8, item);
+        Listing::Held(held + 1)
+    } else {
+        Listing::Full
+    }
+}
+
+// An item is put into the list behind those that it holds, if it is drawn, where it fits.
+pub fn list_where(out: &mut [u16], held: usize, drawn: bool, item: Item) -> Listing
+    ensures { λ r. ⌜ (r ≡ listing (length (now (out .entry))) held (cond drawn (item ∷ []) [])) × (now (out .exit) ≡ listed (now (out .entry)) held (cond drawn (item ∷ []) [])) ⌝ }
+{
+    if drawn {
+        list_item(out, held, item)
+    } else {
+        Listing::Held(held)
     }
 }

@@ -6,6 +6,7 @@ use Rattle.unit_beam.specs.declared.CharacterSize.the-variants as size
 use Rattle.unit_beam.specs.Beam.{placed, blankedPlace, stepped, blankedStep}
 use Rattle.ground_orders.specs.declared.Mode.{Mode}
 use Rattle.ground_orders.specs.declared.Mode.the-variants as mode
+use Rattle.ground_look.specs.Look.{placing}
 use Rattle.ground_look.specs.declared.Look.{Look}
 use Rattle.ground_look.specs.declared.Look.the-variants as look
 use Rattle.unit_motion.specs.Codes.{afterCode}
@@ -58,3 +59,7 @@ unfoldable pub beamAfter : Motion → Beam → Beam
 beamAfter Still beam = beam
 beamAfter (To k t to) beam = to
 beamAfter (Codes s a b) beam = afterCode s b (afterCode s a beam)
+
+-- the motion of a mode's data: the four bytes of point and vector mode, or two
+abbrev pub dataMotion : Mode → ℕ → ℕ → ℕ → ℕ → Beam → Motion
+dataMotion m a b c d beam = cond (placing m) (fourOf m a b c d) (twoOf m a b beam)

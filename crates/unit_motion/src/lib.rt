@@ -7,7 +7,7 @@ use unit_beam::Beam;
 use unit_beam::CharacterSize;
 ghost use mathlib.Core.Path.{_≡_};
 ghost use Rattle.unit_motion.specs.Codes.{draws, afterCode};
-ghost use Rattle.unit_motion.specs.Motion.{traceBy, twoOf, fourOf, motionOf, beamAfter};
+ghost use Rattle.unit_motion.specs.Motion.{traceBy, twoOf, fourOf, motionOf, beamAfter, dataMotion};
 
 // What coordinates leave on the screen.
 pub enum Trace {
@@ -134,6 +134,28 @@ pub fn beam_after(motion: Motion, beam: Beam) -> Beam
     match motion {
         Motion::Still => beam,
         Motion::To(_, _, to) => to,
-        Motion::Codes(size, a, b) => after_code(size, b, after_code(size, a, beam)),
+        Motion::Codes(size, a, b) => after_codes(size, a, b, beam),
+    }
+}
+
+// The beam after two codes.
+pub fn after_codes(size: CharacterSize, a: u8, b: u8, beam: Beam) -> Beam
+    ensures { λ r. ⌜ r ≡ afterCode size b (afterCode size a beam) ⌝ }
+{
+    after_code(size, b, after_code(size, a, beam))
+}
+
+// The beam after a mode's data: the four bytes of point and vector mode, or the first two.
+pub fn moved_by(mode: Mode, a: u8, b: u8, c: u8, d: u8, beam: Beam) -> Beam
+    ensures { λ r. ⌜ r ≡ beamAfter (dataMotion mode a b c d beam) beam ⌝ }
+{
+    match mode {
+        Mode::Idle => beam,
+        Mode::Point => beam::place(a, b, c, d),
+        Mode::Vector => beam::place(a, b, c, d),
+        Mode::IncrementalPoint => beam::step(beam, a, b),
+        Mode::IncrementalVector => beam::step(beam, a, b),
+        Mode::Basic => after_codes(CharacterSize::Basic, a, b, beam),
+        Mode::Large => after_codes(CharacterSize::Large, a, b, beam),
     }
 }

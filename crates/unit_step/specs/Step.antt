@@ -1,11 +1,11 @@
--- One step of a unit that runs (01, "One step of regeneration" and "The pen"): how it moves the state, and what it draws.
+-- One step of a unit that runs (01, "One step of regeneration" and "The pen"): what it makes of the state, and what it draws.
 use Prim.Native.Nat.{ℕ}
 use mathlib.Core.Bool.{Bool, false, cond}
 use mathlib.Core.List.{List}
 use Rattle.ground_orders.specs.declared.Mode.{Mode}
 use Rattle.ground_orders.specs.declared.Mode.the-variants.{Idle}
 use Rattle.ground_groups.specs.Groups.{wordsGroup}
-use Rattle.ground_look.specs.Look.{faultNumber, lookOf}
+use Rattle.ground_look.specs.Look.{lookOf}
 use Rattle.ground_look.specs.declared.Look.{Look}
 use Rattle.ground_look.specs.declared.Look.the-variants as look
 use Rattle.unit_beam.specs.declared.Beam.{Beam}
@@ -20,22 +20,9 @@ use Rattle.unit_items.specs.declared.Item.{Item}
 use Rattle.unit_cursor.specs.Cursor.{Buffer, cursorHere}
 use Rattle.unit_head.specs.declared.State.{State}
 use Rattle.ground_setup.specs.Setup.{wrapOf, aheadOf}
-use Rattle.unit_step.specs.declared.End.{End}
-use Rattle.unit_step.specs.declared.End.the-variants as end
-use Rattle.unit_step.specs.declared.Ahead.{Ahead}
-use Rattle.unit_step.specs.declared.Ahead.the-variants as ahead
+use Rattle.unit_step.specs.declared.Stop.the-variants as stop
 use Rattle.unit_step.specs.declared.Stepped.{Stepped}
 use Rattle.unit_step.specs.declared.Stepped.the-variants as stepped
-
--- "0 sights used up, 1 to 5 fault, 6 end order, 7 detect, 8 data check, 9 items don't fit, 10 not running"
-abbrev pub endNumber : End → ℕ
-endNumber end.SightsUsed = 0
-endNumber (end.Fault f) = faultNumber f
-endNumber end.EndOrder = 6
-endNumber end.Detect = 7
-endNumber end.DataCheck = 8
-endNumber end.NoRoom = 9
-endNumber end.NotRunning = 10
 
 -- the look at the place of a state
 abbrev pub lookAt : List ℕ → State → Look
@@ -68,7 +55,7 @@ struck s a b = record { setup = s .setup; address = a; mode = s .mode; running =
 -- data: a detect, or on to the next address with the beam at b
 abbrev pub dataTo : State → Beam → ℕ → Hit → Stepped
 dataTo s b next hit.Missed = stepped.Goes (beamed s next b)
-dataTo s b next (hit.At a e) = stepped.Stops (struck s a e) end.Detect
+dataTo s b next (hit.At a e) = stepped.Stops (struck s a e) stop.Detect
 
 -- a Transfer On No Detect, by whether it goes
 abbrev pub eitherBy : State → ℕ → ℕ → Bool → Stepped
@@ -77,59 +64,36 @@ eitherBy s target next goes =
 
 -- what a look makes of the state; h is the item that the sight falls on, b where data leave the beam. "Any fault stops regeneration at A
 -- with no status (house)"; "bad parity stops with Data Check at that byte"; "End Order Sequence stops in idle, .. the address after it"
-abbrev pub advanceTo : State → Beam → Hit → Look → Stepped
-advanceTo s b h (look.Fault f) = stepped.Stops (stopped s (s .address) (s .mode)) (end.Fault f)
-advanceTo s b h (look.Check a) = stepped.Stops (stopped s a (s .mode)) end.DataCheck
-advanceTo s b h (look.Enter m next) = stepped.Goes (stateAt s next m)
-advanceTo s b h (look.Pass next) = stepped.Goes (stateAt s next Idle)
-advanceTo s b h (look.Timer next) = stepped.Goes (penned s next (timed (s .pen)))
-advanceTo s b h (look.SetPen p next) = stepped.Goes (penned s next (ordered (s .pen) p))
-advanceTo s b h (look.End next) = stepped.Stops (stopped s next Idle) end.EndOrder
-advanceTo s b h (look.Jump target) = stepped.Goes (stateAt s target Idle)
-advanceTo s b h (look.Either target next) = eitherBy s target next (transfers (s .pen))
-advanceTo s b h (look.Two x y next) = dataTo s b next h
-advanceTo s b h (look.Four x₁ x₂ y₁ y₂ next) = dataTo s b next h
+abbrev pub stepTo : State → Beam → Hit → Look → Stepped
+stepTo s b h (look.Fault f) = stepped.Stops (stopped s (s .address) (s .mode)) (stop.Fault f)
+stepTo s b h (look.Check a) = stepped.Stops (stopped s a (s .mode)) stop.DataCheck
+stepTo s b h (look.Enter m next) = stepped.Goes (stateAt s next m)
+stepTo s b h (look.Pass next) = stepped.Goes (stateAt s next Idle)
+stepTo s b h (look.Timer next) = stepped.Goes (penned s next (timed (s .pen)))
+stepTo s b h (look.SetPen p next) = stepped.Goes (penned s next (ordered (s .pen) p))
+stepTo s b h (look.End next) = stepped.Stops (stopped s next Idle) stop.EndOrder
+stepTo s b h (look.Jump target) = stepped.Goes (stateAt s target Idle)
+stepTo s b h (look.Either target next) = eitherBy s target next (transfers (s .pen))
+stepTo s b h (look.Two x y next) = dataTo s b next h
+stepTo s b h (look.Four x₁ x₂ y₁ y₂ next) = dataTo s b next h
 
 -- the item that what is seen falls on, by the motion
 abbrev pub hitBy : State → Motion → ℕ → Hit
 hitBy s m seen = hitIn seen (strokesOf m (s .beam) false false (s .setup .size) (s .address))
 
--- advancing by a look and its motion: the state after a step with a sight
-unfoldable pub advanceWith : State → Look → Motion → ℕ → Stepped
-advanceWith s l m sight = advanceTo s (beamAfter m (s .beam)) (hitBy s m (seenOf (s .pen) sight)) l
+-- a step over what stands at its place, with a sight
+unfoldable pub stepOver : State → Look → ℕ → Stepped
+stepOver s l sight = stepTo s (beamAfter (motionAt l s) (s .beam)) (hitBy s (motionAt l s) (seenOf (s .pen) sight)) l
 
--- advancing: the state after a step with a sight
-unfoldable pub advanceOf : State → Look → ℕ → Stepped
-advanceOf s l sight = advanceWith s l (motionAt l s) sight
+-- THE STEP FROM A STATE, with a sight
+unfoldable pub stepFrom : List ℕ → State → ℕ → Stepped
+stepFrom words s sight = stepOver s (lookAt words s) sight
 
--- advancing by a step that leaves the beam where it stands, so that no sight falls on it
-unfoldable pub stillOf : State → Look → Stepped
-stillOf s l = advanceTo s (s .beam) hit.Missed l
-
--- the address behind the data of a look, where it has data
-abbrev pub dataBehind : Look → Ahead
-dataBehind (look.Fault f) = ahead.Nothing
-dataBehind (look.Check a) = ahead.Nothing
-dataBehind (look.Enter m next) = ahead.Nothing
-dataBehind (look.Pass next) = ahead.Nothing
-dataBehind (look.Timer next) = ahead.Nothing
-dataBehind (look.SetPen p next) = ahead.Nothing
-dataBehind (look.End next) = ahead.Nothing
-dataBehind (look.Jump target) = ahead.Nothing
-dataBehind (look.Either target next) = ahead.Nothing
-dataBehind (look.Two x y next) = ahead.Data next
-dataBehind (look.Four x₁ x₂ y₁ y₂ next) = ahead.Data next
-
--- advancing over data to the address behind them, by their motion
-unfoldable pub movedOf : State → ℕ → Motion → ℕ → Stepped
-movedOf s next m sight = dataTo s (beamAfter m (s .beam)) next (hitBy s m (seenOf (s .pen) sight))
-
--- listing: what a step with a sight draws, up to the item that a detect falls on, by its motion; a cursor at A and one at A+1 are drawn too
-unfoldable pub itemsMoved : Buffer → State → Motion → ℕ → List Item
-itemsMoved b s m sight =
+-- WHAT IT DRAWS, up to the item that a detect falls on; a cursor at A and one at A+1 are drawn too. A step that is not done moves nothing, and
+-- so draws nothing
+unfoldable pub itemsDrawn : Buffer → State → ℕ → List Item
+itemsDrawn b s sight =
     upto (seenOf (s .pen) sight)
-    (strokesOf m (s .beam) (cursorHere b (wrapOf (s .setup .size) (s .address))) (cursorHere b (aheadOf (s .setup .size) (s .address) 1))
+    (strokesOf (motionAt (lookAt (b .words) s) s) (s .beam)
+    (cursorHere b (wrapOf (s .setup .size) (s .address))) (cursorHere b (aheadOf (s .setup .size) (s .address) 1))
     (s .setup .size) (s .address))
-
-unfoldable pub itemsDrawn : Buffer → State → Look → ℕ → List Item
-itemsDrawn b s l sight = itemsMoved b s (motionAt l s) sight

@@ -1,72 +1,52 @@
-// One step of a unit that runs: advancing its state, and what it draws, each by a call of its own.
+// One step of a unit that runs: what it makes of the state, by its own look at what stands there.
 //
-// The contracts cite `specs/Step.antt`.
+// The contracts cite `specs/Step.antt`; `specs/Run.antt` has several steps, `proofs/Laws.antt` what holds of them.
 use ground_look as look;
 use ground_look::Fault;
 use ground_look::Look;
 use ground_orders::Mode;
-use ground_setup as setup;
 use unit_beam::Beam;
-use unit_cursor as cursor;
-use unit_cursor::Cursor;
 use unit_drawing as drawing;
 use unit_drawing::Hit;
 use unit_head::State;
-use unit_items::Drawn;
 use unit_motion as motion;
 use unit_motion::Motion;
 use unit_pen as pen;
 use unit_pen::Pen;
 ghost use mathlib.Core.Path.{_≡_};
-ghost use Prim.Native.Nat.{_<_};
-ghost use Rattle.unit_items.specs.Items.{itemsOf};
-ghost use Rattle.unit_cursor.specs.Cursor.{buffer};
-ghost use Rattle.unit_step.specs.Step.{endNumber, stateAt, penned, beamed, stopped, struck, dataTo, eitherBy, advanceTo, hitBy, advanceWith, stillOf, dataBehind, movedOf, itemsMoved};
+ghost use Rattle.unit_step.specs.Run.{isIdle};
+ghost use Rattle.unit_step.specs.Step.{stateAt, penned, beamed, stopped, struck, dataTo, eitherBy, stepTo, hitBy, stepFrom};
 
-// Why a run ends.
-pub enum End {
-    // 0: the sights are used up.
-    SightsUsed,
-    // 1 to 5: a fault.
+// Why a step stops the unit.
+pub enum Stop {
+    // A fault.
     Fault(Fault),
-    // 6: End Order Sequence.
+    // End Order Sequence.
     EndOrder,
-    // 7: a light-pen detect.
+    // A light-pen detect.
     Detect,
-    // 8: a data check.
+    // Bad parity.
     DataCheck,
-    // 9: the items don't fit.
-    NoRoom,
-    // 10: the unit does not run.
-    NotRunning,
 }
 
 // What a step makes of the state.
 pub enum Stepped {
     Goes(State),
-    Stops(State, End),
+    Stops(State, Stop),
 }
 
-// What a look leads behind.
-pub enum Ahead {
-    // No data.
-    Nothing,
-    // Data, with the address behind them.
-    Data(usize),
-}
-
-// The number that 01 gives the end of a run.
-pub fn end_number(end: End) -> u8
-    ensures { λ r. ⌜ (r ≡ endNumber end) × (r < 11) ⌝ }
+// Whether a mode is idle.
+pub fn is_idle(mode: Mode) -> bool
+    ensures { λ r. ⌜ r ≡ isIdle mode ⌝ }
 {
-    match end {
-        End::SightsUsed => 0,
-        End::Fault(fault) => look::fault_number(fault),
-        End::EndOrder => 6,
-        End::Detect => 7,
-        End::DataCheck => 8,
-        End::NoRoom => 9,
-        End::NotRunning => 10,
+    match mode {
+        Mode::Idle => true,
+        Mode::Point => false,
+        Mode::Vector => false,
+        Mode::IncrementalPoint => false,
+        Mode::IncrementalVector => false,
+        Mode::Basic => false,
+        Mode::Large => false,
     }
 }
 
@@ -139,7 +119,7 @@ fn data_by(state: State, to: Beam, next: usize, hit: Hit) -> Stepped
 {
     match hit {
         Hit::Missed => Stepped::Goes(with_beam(state, next, to)),
-        Hit::At(address, end) => Stepped::Stops(struck_at(state, address, end), End::Detect),
+        Hit::At(address, end) => Stepped::Stops(struck_at(state, address, end), Stop::Detect),
     }
 }
 
@@ -156,21 +136,21 @@ fn either_by(state: State, target: usize, next: usize, goes: bool) -> Stepped
 }
 
 // What a look makes of the state: a hit, or the beam where its data leave it.
-fn advance_to(state: State, to: Beam, hit: Hit, look: Look) -> Stepped
-    ensures { λ r. ⌜ r ≡ advanceTo state to hit look ⌝ }
+fn step_to(state: State, to: Beam, hit: Hit, look: Look) -> Stepped
+    ensures { λ r. ⌜ r ≡ stepTo state to hit look ⌝ }
 {
     let mode = state.mode;
     let pen = state.pen;
     match look {
         Look::Fault(fault) => {
-            Stepped::Stops(stopped_at(state, state.address, mode), End::Fault(fault))
+            Stepped::Stops(stopped_at(state, state.address, mode), Stop::Fault(fault))
         }
-        Look::Check(bad) => Stepped::Stops(stopped_at(state, bad, mode), End::DataCheck),
+        Look::Check(bad) => Stepped::Stops(stopped_at(state, bad, mode), Stop::DataCheck),
         Look::Enter(entered, next) => Stepped::Goes(at_place(state, next, entered)),
         Look::Pass(next) => Stepped::Goes(at_place(state, next, Mode::Idle)),
         Look::Timer(next) => Stepped::Goes(with_pen(state, next, pen::after_timer(pen))),
         Look::SetPen(set, next) => Stepped::Goes(with_pen(state, next, pen::after_order(pen, set))),
-        Look::End(next) => Stepped::Stops(stopped_at(state, next, Mode::Idle), End::EndOrder),
+        Look::End(next) => Stepped::Stops(stopped_at(state, next, Mode::Idle), Stop::EndOrder),
         Look::Jump(target) => Stepped::Goes(at_place(state, target, Mode::Idle)),
         Look::Either(target, next) => either_by(state, target, next, pen::is_transferring(pen)),
         Look::Two(_, _, next) => data_by(state, to, next, hit),
@@ -188,69 +168,16 @@ fn hit_at(state: State, motion: Motion, seen: u8) -> Hit
     drawing::hit_of(motion, beam, size, state.address, seen)
 }
 
-// The address behind the data of a look, where it has data.
-pub fn data_behind(look: Look) -> Ahead
-    ensures { λ r. ⌜ r ≡ dataBehind look ⌝ }
+// The step from a state: what stands there, and what the pen is shown.
+pub fn step_from(words: &[u16], state: State, sight: u8) -> Stepped
+    ensures { λ r. ⌜ r ≡ stepFrom (now (words .entry)) state sight ⌝ }
 {
-    match look {
-        Look::Fault(_) => Ahead::Nothing,
-        Look::Check(_) => Ahead::Nothing,
-        Look::Enter(_, _) => Ahead::Nothing,
-        Look::Pass(_) => Ahead::Nothing,
-        Look::Timer(_) => Ahead::Nothing,
-        Look::SetPen(_, _) => Ahead::Nothing,
-        Look::End(_) => Ahead::Nothing,
-        Look::Jump(_) => Ahead::Nothing,
-        Look::Either(_, _) => Ahead::Nothing,
-        Look::Two(_, _, next) => Ahead::Data(next),
-        Look::Four(_, _, _, _, next) => Ahead::Data(next),
-    }
-}
-
-// Advances the state by a step: its look, the motion of that, and what the pen is shown.
-pub fn advance(state: State, look: Look, motion: Motion, sight: u8) -> Stepped
-    ensures { λ r. ⌜ r ≡ advanceWith state look motion sight ⌝ }
-{
-    let beam = state.beam;
-    let pen = state.pen;
-    let hit = hit_at(state, motion, pen::seen_of(pen, sight));
-    advance_to(state, motion::beam_after(motion, beam), hit, look)
-}
-
-// Advances the state by a step that leaves the beam where it stands.
-pub fn advance_still(state: State, look: Look) -> Stepped
-    ensures { λ r. ⌜ r ≡ stillOf state look ⌝ }
-{
-    let beam = state.beam;
-    advance_to(state, beam, Hit::Missed, look)
-}
-
-// Advances the state over data to the address behind them, by their motion and what the pen is shown.
-pub fn advance_moved(state: State, next: usize, motion: Motion, sight: u8) -> Stepped
-    ensures { λ r. ⌜ r ≡ movedOf state next motion sight ⌝ }
-{
-    let beam = state.beam;
-    let pen = state.pen;
-    let hit = hit_at(state, motion, pen::seen_of(pen, sight));
-    data_by(state, motion::beam_after(motion, beam), next, hit)
-}
-
-// What a step draws: its motion, and what the pen is shown.
-pub fn draw_motion(words: &[u16], cursor: Cursor, state: State, motion: Motion, sight: u8) -> Drawn
-    ensures { λ r. ⌜ itemsOf r ≡ itemsMoved (buffer (now (words .entry)) cursor) state motion sight ⌝ }
-{
-    let beam = state.beam;
-    let pen = state.pen;
     let setup = state.setup;
-    let size = setup.size;
-    let at = state.address;
-    drawing::drawn_of(
-        motion,
-        beam,
-        cursor::is_here(words, cursor, setup::wrap(size, at)),
-        cursor::is_here(words, cursor, setup::ahead(size, at, 1)),
-        size,
-        at,
-        pen::seen_of(pen, sight),
-    )
+    let mode = state.mode;
+    let beam = state.beam;
+    let pen = state.pen;
+    let look = look::look_at(words, setup, state.address, mode);
+    let motion = motion::motion_of(look, mode, beam);
+    let hit = hit_at(state, motion, pen::seen_of(pen, sight));
+    step_to(state, motion::beam_after(motion, beam), hit, look)
 }

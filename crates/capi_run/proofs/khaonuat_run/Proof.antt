@@ -1,18 +1,15 @@
 use mathlib.Core.Path.{refl, ap, _∙_}
 use denote.Ref.{now}
-use Rattle.device_2250.specs.Device.{unitOf}
-use Rattle.device_2250.specs.declared.Device.{Device}
-use Rattle.capi_run.specs.Started.{startedCall, startsAt}
-use Rattle.capi_run.proofs.Laws.{call-as, loaded-as}
+use Rattle.console_run.specs.Pair.{RunEnd}
+use Rattle.capi_started.proofs.Laws.{start-as}
+use Rattle.capi_run.specs.Running.{ranCall, runStarted}
+use Rattle.capi_run.proofs.Laws.{call-as}
 use borrow.Author.Needs.{needs}
 use Rattle.capi_run.proofs.khaonuat_run.Statement.{statement}
 use Rattle.capi_run.proofs.khaonuat_run.Tie as tie
 
-fresh-requires : tie.Need-fresh-requires
-fresh-requires c κs = search needs
-
-load-requires : tie.Need-load-requires
-load-requires c κs = search needs
+start-dump-requires : tie.Need-start-dump-requires
+start-dump-requires c κs = search needs
 
 enum-known-answer : tie.Need-enum-known-answer
 enum-known-answer c = search needs
@@ -23,41 +20,41 @@ refused-requires c κs = search needs
 enum-told : tie.Need-enum-told
 enum-told c = search needs
 
-switch-to-requires : tie.Need-switch-to-requires
-switch-to-requires c κs = search needs
+run-requires : tie.Need-run-requires
+run-requires c κs = search needs
 
-run-started-requires : tie.Need-run-started-requires
-run-started-requires c κs = search needs
+ran-number-requires : tie.Need-ran-number-requires
+ran-number-requires c κs = search needs
 
 returns : tie.Need-returns
 returns c =
-    let a = c .before .before .before .before .before .before .before .before .before .before .args in
-    let fresh = c .before .before .before .before .before .before .fresh .ensures .0 in
-    let load = c .before .before .before .before .before .load in
-    call-as (c .refused .ensures) refl ∙ loaded-as (a .size) (now (a .dump)) (a .start) (a .closed) (now (a .sights)) (now (a .items)) (now (a .counts)) (load .result) fresh (load .ensures) (c .before .before .answer .given .1)
+    let a = c .before .before .before .before .before .before .before .before .before .args in
+    let begun = c .before .before .before .before .before .start-dump in
+    call-as (c .refused .ensures) refl
+    ∙ start-as (λ e. runStarted e (now (a .sights)) (now (a .items)) (now (a .counts))) (begun .result) (begun .ensures) (c .before .before .answer .given .1)
 
 same-length : tie.Need-same-length
 same-length c = search needs
 
 returns-2 : tie.Need-returns-2
 returns-2 c =
-    let a = c .before .before .before .before .before .before .before .before .before .before .before .before .before .before .args in
-    let fresh = c .before .before .before .before .before .before .before .before .before .before .fresh .ensures .0 in
-    let load = c .before .before .before .before .before .before .before .before .before .load in
-    let switched = ap (λ (d : Device). startedCall (startsAt (unitOf d) (a .start)) (now (a .sights)) (now (a .items)) (now (a .counts))) (c .before .before .before .before .before .switch-to .ensures) in
-    c .before .before .run-started .ensures ∙ switched ∙ loaded-as (a .size) (now (a .dump)) (a .start) (a .closed) (now (a .sights)) (now (a .items)) (now (a .counts)) (load .result) fresh (load .ensures) (c .before .before .before .before .before .before .enum-told .given .1)
+    let a = c .before .before .before .before .before .before .before .before .before .before .before .before .before .before .before .before .before .args in
+    let begun = c .before .before .before .before .before .before .before .before .before .before .before .before .before .start-dump in
+    let told = c .ran-number .ensures in
+    call-as (told .0) (told .1)
+    ∙ ap (λ (e : RunEnd). ranCall e (now (a .counts))) (c .before .before .before .before .run .ensures)
+    ∙ start-as (λ e. runStarted e (now (a .sights)) (now (a .items)) (now (a .counts))) (begun .result) (begun .ensures) (c .before .before .before .before .before .before .before .before .before .before .enum-told .given .1)
 
 pub khaonuat-run-spec : {M : Type 1} → statement M
 khaonuat-run-spec =
     tie.close
     (tie.spec
-    fresh-requires
-    load-requires
+    start-dump-requires
     enum-known-answer
     refused-requires
     enum-told
-    switch-to-requires
-    run-started-requires
+    run-requires
+    ran-number-requires
     returns
     same-length
     returns-2)

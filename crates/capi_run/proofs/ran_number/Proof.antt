@@ -5,8 +5,8 @@ use Rattle.capi_run.proofs.ran_number.Tie as tie
 enum-known-ran : tie.Need-enum-known-ran
 enum-known-ran c = search needs
 
-end-number-requires : tie.Need-end-number-requires
-end-number-requires c κs = search needs
+outcome-number-requires : tie.Need-outcome-number-requires
+outcome-number-requires c κs = search needs
 
 wide-requires : tie.Need-wide-requires
 wide-requires c κs = search needs
@@ -18,7 +18,7 @@ refused-requires : tie.Need-refused-requires
 refused-requires c κs = search needs
 
 returns : tie.Need-returns
-returns c = let e = c .before .before .before .before .ran .given .1 in (simp (e, c .wide .ensures, c .before .end-number .ensures .0), simp e)
+returns c = let e = c .before .before .before .before .ran .given .1 in (simp (e, c .wide .ensures, c .before .outcome-number .ensures .0), simp e)
 
 returns-2 : tie.Need-returns-2
 returns-2 c = let e = c .before .before .ran2 .given .1 in (simp e (c .refused .ensures), simp e)
@@ -28,7 +28,7 @@ ran-number-spec =
     tie.close
     (tie.spec
     enum-known-ran
-    end-number-requires
+    outcome-number-requires
     wide-requires
     enum-known-ran-2
     refused-requires

@@ -2,7 +2,7 @@ use mathlib.Core.Path.{ap, _∙_}
 use Prim.Native.Nat.{ℕ}
 use mathlib.Core.List.{List}
 use denote.Ref.{now}
-use Rattle.unit_run.specs.Run.{unitRun}
+use Rattle.console_run.specs.Pair.{pairRun}
 use Rattle.device_2250.specs.Device.{unitOf}
 use Rattle.console_session.specs.Session.{runSaid}
 use Rattle.console_session.proofs.Laws.{speaks-as}
@@ -30,10 +30,10 @@ same-length-3 c = search needs
 
 returns : tie.Need-returns
 returns c =
-    let a = c .before .before .before .before .before .before .before .before .before .before .before .before .before .before .before .before .before .before .args in
-    let read = c .before .before .before .before .before .before .before .before .before .before .before .before .read-sights .ensures in
-    let ran = c .before .before .before .before .before .before .before .run .ensures in
-    speaks-as (ap runSaid (ran ∙ ap (λ (s : List ℕ). unitRun (unitOf (a .device)) s (now (a .list))) read)) (c .before .before .ran-by .ensures)
+    let a = c .before .before .before .before .before .before .before .before .before .before .before .before .before .before .before .before .before .before .before .before .before .before .before .args in
+    let read = c .before .before .before .before .before .before .before .before .before .before .before .before .before .before .before .before .before .read-sights .ensures in
+    let ran = c .before .before .before .before .before .before .before .before .run .ensures in
+    speaks-as (ap runSaid (ran ∙ ap (λ (s : List ℕ). pairRun (unitOf (a .t1)) s (now (a .list))) read)) (c .before .before .ran-by .ensures)
 
 pub run-through-spec : {M : Type 1} → statement M
 run-through-spec =

@@ -12,11 +12,8 @@ enum-known-motion c = search needs
 enum-known-motion-2 : tie.Need-enum-known-motion-2
 enum-known-motion-2 c = search needs
 
-after-code-requires : tie.Need-after-code-requires
-after-code-requires c κs = search needs
-
-after-code-requires-2 : tie.Need-after-code-requires-2
-after-code-requires-2 c κs = search needs
+after-codes-requires : tie.Need-after-codes-requires
+after-codes-requires c κs = search needs
 
 returns : tie.Need-returns
 unfolding beamAfter
@@ -28,7 +25,7 @@ returns-2 c = simp (c .before .motion .given .1)
 
 returns-3 : tie.Need-returns-3
 unfolding beamAfter
-returns-3 c = simp (c .before .before .before .motion2 .given .1, ← c .before .after-code .ensures) (c .after-code2 .ensures)
+returns-3 c = simp (c .before .before .motion2 .given .1) (c .after-codes .ensures)
 
 pub beam-after-spec : {M : Type 1} → statement M
 beam-after-spec =
@@ -37,8 +34,7 @@ beam-after-spec =
     enum-told
     enum-known-motion
     enum-known-motion-2
-    after-code-requires
-    after-code-requires-2
+    after-codes-requires
     returns
     returns-2
     returns-3)

@@ -1,0 +1,3 @@
+pub mod Run
+pub mod Together
+pub mod Joined
