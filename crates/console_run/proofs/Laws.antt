@@ -2,7 +2,7 @@
 use Prim.Native.Nat.{ℕ, suc, _+_}
 use native.Mathlib.Omega.{arith}
 use mathlib.Core.Path.{_≡_, refl, sym, ap, _∙_}
-use mathlib.Core.Bool.{Bool, true, false, cond, _&&_, false≢true}
+use mathlib.Core.Bool.{true, false, cond, and-eq-true-iff}
 use mathlib.Core.List.{List, [], _∷_, _++_, append-nil}
 use lib.Dec.{eqb, leb}
 use lib.ListN.{length}
@@ -42,14 +42,6 @@ stop-number (stop.Fault f) = fault-number f
 stop-number stop.EndOrder = refl
 stop-number stop.Detect = refl
 stop-number stop.DataCheck = refl
-
-pub and-first : (a b : Bool) → (a && b) ≡ true → a ≡ true
-and-first true b e = refl
-and-first false b e = e
-
-pub and-second : (a b : Bool) → (a && b) ≡ true → b ≡ true
-and-second true b e = e
-and-second false b e = absurd (false≢true e)
 
 -- what advancing over some sights comes to, by the first of them
 module _ (words : List ℕ) (h : Head) (runs : h .state .running ≡ true) (n held : ℕ) (list : List ℕ) (more : DisplayUnit → ℕ → RunEnd) where
@@ -160,7 +152,7 @@ module _ (words : List ℕ) (rest : List ℕ) where
   unfolding itemsRun allSights
   pair-over [] h runs n held m list sights e = none-over h runs n held m list sights e
   pair-over (g ∷ a) h runs n held m list sights e =
-      by-step g a (pair-over a) h runs n held m list (and-first (leb g 2) (allSights a) sights) (and-second (leb g 2) (allSights a) sights)
+      by-step g a (pair-over a) h runs n held m list (and-eq-true-iff (leb g 2) (allSights a) .0 sights .0) (and-eq-true-iff (leb g 2) (allSights a) .0 sights .1)
       (stepFrom words (h .state) g) refl e
 
 -- THE LIST stays as long as it was

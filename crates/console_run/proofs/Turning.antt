@@ -1,8 +1,8 @@
 -- A turn of a run with its list: steps that were listed at once and gone over lead where the pair does. Assumes nothing.
-use Prim.Native.Nat.{ℕ, zero, suc, _+_, _-_, _≤_, _<_}
+use Prim.Native.Nat.{ℕ, zero, _+_, _-_, _≤_, _<_}
 use native.Mathlib.Omega.{arith}
 use mathlib.Core.Path.{_≡_, refl, sym, ap, subst, _∙_}
-use mathlib.Core.Bool.{Bool, true, false, _&&_, false≢true}
+use mathlib.Core.Bool.{true, false, false≢true, and-eq-true-iff}
 use mathlib.Core.List.{List, [], _∷_, _++_}
 use lib.Dec.{leb}
 use lib.ListN.{length, take, drop, getD, length-append, length-drop, drop-of-length-le, take-append-drop}
@@ -40,7 +40,7 @@ use Rattle.console_run.specs.declared.Turn.{Turn}
 use Rattle.console_run.specs.declared.Turn.the-variants.{On, Last}
 use Rattle.console_run.specs.Pair.{RunValues, runEnd, runEnded, advancedTo, listedTo, advancesBy, pairFrom}
 use Rattle.console_run.specs.Turns.{turnTo, turnGone, leadsTo, Onwards, Takes}
-use Rattle.console_run.proofs.Laws.{and-first, and-second, stop-number, pair-none, pair-over}
+use Rattle.console_run.proofs.Laws.{stop-number, pair-none, pair-over}
 
 -- A TURN of steps that were gone over
 module _ (words : List ℕ) (h : Head) (runs : h .state .running ≡ true) (gone : HeadAdvanced) (a rest : List ℕ) (told : advanceEnded words gone ≡ goneOver (unit words h) a) where
@@ -114,18 +114,21 @@ module _ (words : List ℕ) (h : Head) (runs : h .state .running ≡ true) (gone
   turn-onwards m some = onwards-by m some (gone .answer) refl
 
 -- sights that are none above 2, some of them
-pub all-take : (k : ℕ) (sights : List ℕ) → allSights sights ≡ true → allSights (take k sights) ≡ true
+pub all-first : (a c : List ℕ) → allSights (a ++ c) ≡ true → allSights a ≡ true
 unfolding allSights
-all-take zero sights e = refl
-all-take (suc k) [] e = refl
-all-take (suc k) (g ∷ gs) e =
-    ap (λ (t : Bool). t && allSights (take k gs)) (and-first (leb g 2) (allSights gs) e) ∙ all-take k gs (and-second (leb g 2) (allSights gs) e)
+all-first [] c e = refl
+all-first (g ∷ a) c e = let q = and-eq-true-iff (leb g 2) (allSights (a ++ c)) .0 e in simp (q .0, all-first a c (q .1))
+
+pub all-second : (a c : List ℕ) → allSights (a ++ c) ≡ true → allSights c ≡ true
+unfolding allSights
+all-second [] c e = e
+all-second (g ∷ a) c e = all-second a c (and-eq-true-iff (leb g 2) (allSights (a ++ c)) .0 e .1)
+
+pub all-take : (k : ℕ) (sights : List ℕ) → allSights sights ≡ true → allSights (take k sights) ≡ true
+all-take k sights e = all-first (take k sights) (drop k sights) (ap allSights (take-append-drop k sights) ∙ e)
 
 pub all-drop : (k : ℕ) (sights : List ℕ) → allSights sights ≡ true → allSights (drop k sights) ≡ true
-unfolding allSights
-all-drop zero sights e = e
-all-drop (suc k) [] e = refl
-all-drop (suc k) (g ∷ gs) e = all-drop k gs (and-second (leb g 2) (allSights gs) e)
+all-drop k sights e = all-second (take k sights) (drop k sights) (ap allSights (take-append-drop k sights) ∙ e)
 
 -- advancing over such sights is not refused
 pub advance-all : (u : DisplayUnit) (sights : List ℕ) → allSights sights ≡ true → unitAdvance u sights ≡ goneOver u sights
@@ -164,7 +167,7 @@ module _ (words : List ℕ) (h : Head) (runs : h .state .running ≡ true) (held
   -- it is not refused
   not-refused : {A : Type 0} (x : Refusal) (g : ℕ) (gs : List ℕ) → allSights (g ∷ gs) ≡ true → Tells g (listing-reply.Refused x) → A
   unfolding unitList allSights
-  not-refused x g gs all told = by (listing (length list) held (nextItems (unit words h) g)) (simp (and-first (leb g 2) (allSights gs) all) at told)
+  not-refused x g gs all told = by (listing (length list) held (nextItems (unit words h) g)) (simp (and-eq-true-iff (leb g 2) (allSights gs) .0 all .0) at told)
     where
       by : {A : Type 0} {y : List ℕ} (l : Listing) → listEnded (listing-reply.Refused x) list′ ≡ record { answer = listingValues l; list = y } → A
       by Full e = let v = ap (λ (w : ListEnd). w .answer) e in let z : _≡_ {A = ℕ} 0 1 = cc in absurd (omega arith)
@@ -293,4 +296,4 @@ module _ (words : List ℕ) (h : Head) (stands : h .state .running ≡ false) (l
   unfolding pairFrom allSights
   pair-still [] e = rw (advance-all (unit words h) [] refl, still-over []) refl
   pair-still (g ∷ gs) e =
-      rw (← still-list g (and-first (leb g 2) (allSights gs) e), advance-all (unit words h) (g ∷ []) (all-take 1 (g ∷ gs) e), still-over (g ∷ [])) refl
+      rw (← still-list g (and-eq-true-iff (leb g 2) (allSights gs) .0 e .0), advance-all (unit words h) (g ∷ []) (all-take 1 (g ∷ gs) e), still-over (g ∷ [])) refl

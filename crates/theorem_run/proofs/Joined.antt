@@ -3,8 +3,7 @@ use Prim.Native.Nat.{ℕ, _+_}
 use native.Mathlib.Omega.{arith}
 use mathlib.Core.Path.{_≡_, refl, ap, _∙_}
 use mathlib.Core.Bool.{Bool, true, false}
-use mathlib.Core.List.{List, [], _∷_, _++_}
-use lib.Dec.{leb}
+use mathlib.Core.List.{List, _++_}
 use Rattle.unit_head.specs.Head.{DisplayUnit, unit, withState}
 use Rattle.unit_head.specs.declared.State.{State}
 use Rattle.unit_step.specs.Run.{onward, stepsFrom, stepsDone, beyond}
@@ -12,19 +11,9 @@ use Rattle.unit_step.specs.declared.Stepped.{Stepped}
 use Rattle.unit_step.specs.declared.Stepped.the-variants.{Goes, Stops}
 use Rattle.unit_step.proofs.Laws.{steps-append, done-append, all-run}
 use Rattle.unit_advance.specs.Advance.{progressBy, progressOver, allSights, AdvanceEnd, advancedBy, goneOver}
-use Rattle.console_run.proofs.Laws.{and-first, and-second, stop-number}
-use Rattle.console_run.proofs.Turning.{advance-all}
+use Rattle.console_run.proofs.Laws.{stop-number}
+use Rattle.console_run.proofs.Turning.{all-first, all-second, advance-all}
 use Rattle.theorem_run.specs.Joined.{countedOn, thenOver, AdvanceJoined}
-
-all-first : (a c : List ℕ) → allSights (a ++ c) ≡ true → allSights a ≡ true
-unfolding allSights
-all-first [] c h = refl
-all-first (g ∷ a) c h = simp (and-first (leb g 2) (allSights (a ++ c)) h, all-first a c (and-second (leb g 2) (allSights (a ++ c)) h))
-
-all-second : (a c : List ℕ) → allSights (a ++ c) ≡ true → allSights c ≡ true
-unfolding allSights
-all-second [] c h = h
-all-second (g ∷ a) c h = all-second a c (and-second (leb g 2) (allSights (a ++ c)) h)
 
 module _ (u : DisplayUnit) (a c : List ℕ) (all : allSights c ≡ true) where
   abbrev words : List ℕ

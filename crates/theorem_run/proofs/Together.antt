@@ -2,7 +2,7 @@
 use Prim.Native.Nat.{ℕ, suc, _+_}
 use native.Mathlib.Omega.{arith}
 use mathlib.Core.Path.{_≡_, refl, sym, ap, subst, _∙_}
-use mathlib.Core.Bool.{Bool, true, false, cond}
+use mathlib.Core.Bool.{Bool, true, false, cond, and-eq-true-iff}
 use mathlib.Core.List.{List, [], _∷_, append-nil}
 use lib.Dec.{leb}
 use lib.ListN.{length, take, drop, getD, take-append-drop}
@@ -37,7 +37,7 @@ use Rattle.unit_advance.specs.Advance.{stopNumber, progress, progressBy, progre
 use Rattle.unit_advance.specs.declared.End.the-variants.{Stopped, NotRunning}
 use Rattle.console_run.specs.Pair.{RunValues, RunEnd, runEnd, advancesBy, pairFrom, pairRun}
 use Rattle.console_run.specs.declared.Outcome.the-variants.{Ended}
-use Rattle.console_run.proofs.Laws.{and-first, and-second, stop-number, over-none, over-goes, over-stops, one-listed, one-full, pair-none, pair-over}
+use Rattle.console_run.proofs.Laws.{stop-number, over-none, over-goes, over-stops, one-listed, one-full, pair-none, pair-over}
 use Rattle.console_run.proofs.Turning.{all-take, all-drop, advance-all, pair-still}
 use Rattle.theorem_run.specs.Run.{course, endedWith, notDone, courseBy, runFrom, ranBy, unitRun}
 use Rattle.theorem_run.specs.Together.{GivesTheRun, NotDoneBare, NextTooMuch, Nine, withItems, AllFits}
@@ -131,7 +131,7 @@ module _ (words : List ℕ) where
   unfolding runFrom allSights
   pair-is [] h runs e n held list = pair-none words h runs n held list
   pair-is (g ∷ gs) h runs e n held list =
-      is-by g gs (pair-is gs) h runs (and-first (leb g 2) (allSights gs) e) (and-second (leb g 2) (allSights gs) e) n held list
+      is-by g gs (pair-is gs) h runs (and-eq-true-iff (leb g 2) (allSights gs) .0 e .0) (and-eq-true-iff (leb g 2) (allSights gs) .0 e .1) n held list
       (stepFrom words (h .state) g) refl (listing (length list) held (itemsDrawn (buffer words (h .cursor)) (h .state) g)) refl
 
 pub gives-the-run : GivesTheRun
@@ -286,7 +286,7 @@ module _ (words : List ℕ) where
       let nine : _≡_ {A = ℕ} 0 9 = cc in
       absurd (omega arith)
   finds (g ∷ gs) h runs all n held list m k ended =
-      finds-by g gs (finds gs) h runs (and-first (leb g 2) (allSights gs) all) (and-second (leb g 2) (allSights gs) all) n held list m k ended
+      finds-by g gs (finds gs) h runs (and-eq-true-iff (leb g 2) (allSights gs) .0 all .0) (and-eq-true-iff (leb g 2) (allSights gs) .0 all .1) n held list m k ended
       (listing (length list) held (itemsDrawn (buffer words (h .cursor)) (h .state) g)) refl (stepFrom words (h .state) g) refl
 
 module _ (u : DisplayUnit) (sights list : List ℕ) (n k : ℕ) (runs : u .head .state .running ≡ true) (all : allSights sights ≡ true) where
@@ -310,8 +310,7 @@ module _ (u : DisplayUnit) (sights list : List ℕ) (n k : ℕ) (runs : u .head 
     good-next : leb (getD sights n 0) 2 ≡ true
     unfolding allSights
     good-next =
-        and-first (leb (getD sights n 0) 2) (allSights (drop (n + 1) sights))
-        (subst (λ (l : List ℕ). allSights l ≡ true) the-next (all-drop n sights all))
+        and-eq-true-iff (leb (getD sights n 0) 2) (allSights (drop (n + 1) sights)) .0 (subst (λ (l : List ℕ). allSights l ≡ true) the-next (all-drop n sights all)) .0
 
     full-next : pairFrom (unit (u .words) (withState (u .head) (t .behind))) (drop n sights) n k listed″
         ≡ runEnd (unit (u .words) (withState (u .head) (t .behind))) (RunValues.ran n 9 k) listed″

@@ -3,7 +3,7 @@
 use Prim.Native.Nat.{ℕ, _+_, _<_}
 use native.Mathlib.Omega.{arith}
 use mathlib.Core.Path.{_≡_, refl, ap, _∙_}
-use mathlib.Core.Bool.{Bool, true, false, not, _&&_, false≢true}
+use mathlib.Core.Bool.{Bool, true, false, not, _&&_, false≢true, and-eq-true-iff}
 use mathlib.Core.List.{List}
 use lib.Dec.{eqb}
 use lib.ListN.{getD}
@@ -50,10 +50,6 @@ pair-bytes w v a b p =
 
 pair-data : (w v : ℕ) → plainPair w v ≡ true → eqb (dataOf w) 0x2A ≡ false
 pair-data w v p = plainly (writtenOf w && writtenOf v) (goodOf w) (goodOf v) (eqb (dataOf w) 0x2A) p .order
-
-both : (a b : Bool) → (a && b) ≡ true → (a ≡ true) × (b ≡ true)
-both true b e = (refl, e)
-both false b e = absurd (false≢true e)
 
 -- where the addresses do not go round
 module _ (s : Size) (at : ℕ) where
@@ -117,10 +113,10 @@ module _ (words : List ℕ) (s : State) (h : s .address + 4 < sizeOf (s .setup .
   looked-by : (t : Bool) → placing (s .mode) ≡ t → plainData t (getD words (s .address) 0) (word 1) (word 2) (word 3) ≡ true → Looked (lookAt words s) t
   unfolding motionOf
   looked-by true e p =
-      let q = both (plainPair (getD words (s .address) 0) (word 1)) (plainPair (word 2) (word 3)) p in
+      let q = and-eq-true-iff (plainPair (getD words (s .address) 0) (word 1)) (plainPair (word 2) (word 3)) .0 p in
       rw (look-four (q .0) e (q .1)) (record { motion = simp e; onto = λ b h. refl })
   looked-by false e p =
-      let q = both (plainPair (getD words (s .address) 0) (word 1)) true p in
+      let q = and-eq-true-iff (plainPair (getD words (s .address) 0) (word 1)) true .0 p in
       rw (look-two (q .0) e) (record { motion = simp e; onto = λ b h. refl })
 
   module _ (p : Plain) (sight : ℕ) where
