@@ -123,9 +123,10 @@ impl Console {
 
     fn item(&mut self, &[kind, x, y, to_x, to_y, code, size, address]: &[u16; 8]) {
         let size = if size == 1 { "basic" } else { "large" };
+        let off = if code == 1 { " off" } else { "" };
         match kind {
-            1 => say!(self, "point {x} {y} at {address}"),
-            2 => say!(self, "vector {x} {y} {to_x} {to_y} at {address}"),
+            1 => say!(self, "point {x} {y}{off} at {address}"),
+            2 => say!(self, "vector {x} {y} {to_x} {to_y}{off} at {address}"),
             3 => say!(self, "character {x} {y} code {code:02X} {size} at {address}"),
             _ => say!(self, "cursor {x} {y} code {code:02X} {size} at {address}"),
         }

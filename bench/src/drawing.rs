@@ -16,8 +16,8 @@ pub enum CharacterSize {
 
 #[derive(Clone, Copy, PartialEq, Eq, Debug)]
 pub enum Item {
-    Point { at: Beam, address: u16 },
-    Vector { from: Beam, to: Beam, address: u16 },
+    Point { at: Beam, off: bool, address: u16 },
+    Vector { from: Beam, to: Beam, off: bool, address: u16 },
     Character { at: Beam, code: u8, size: CharacterSize, address: u16 },
     Cursor { at: Beam, code: u8, size: CharacterSize, address: u16 },
 }
@@ -26,8 +26,8 @@ impl Item {
     /// The item's eight numbers: kind, from X, from Y, to X, to Y, code, size, address.
     pub fn numbers(self) -> [u16; 8] {
         match self {
-            Item::Point { at, address } => [1, at.x, at.y, at.x, at.y, 0, 0, address],
-            Item::Vector { from, to, address } => [2, from.x, from.y, to.x, to.y, 0, 0, address],
+            Item::Point { at, off, address } => [1, at.x, at.y, at.x, at.y, off.into(), 0, address],
+            Item::Vector { from, to, off, address } => [2, from.x, from.y, to.x, to.y, off.into(), 0, address],
             Item::Character { at, code, size, address } => {
                 [3, at.x, at.y, at.x, at.y, code.into(), size.number(), address]
             }
@@ -145,10 +145,11 @@ pub fn coordinate(high: u8, low: u8) -> u16 {
     u16::from_be_bytes([high & 0x0F, low]) >> 2
 }
 
-/// Adds an increment: bits 0 to 6 as a signed number; the sum keeps ten bits.
-pub fn add_increment(coordinate: u16, increment: u8) -> u16 {
+/// Adds an increment, bits 0 to 6 as a signed number: the ten bits that the sum keeps, and whether it left 0 to 1,023 (C-19).
+pub fn add_increment(coordinate: u16, increment: u8) -> (u16, bool) {
     let distance = i16::from(increment as i8 >> 1);
-    coordinate.wrapping_add_signed(distance) & 1023
+    let sum = coordinate as i16 + distance;
+    (sum as u16 & 1023, !(0..=1023).contains(&sum))
 }
 
 /// What a step of data is given beside its bytes. `sight` is what the pen would detect, 0 for nothing.
@@ -163,19 +164,26 @@ pub struct Setting {
 #[inline(always)]
 pub fn draw_coordinates(bytes: [u8; 4], vector: bool, setting: Setting, list: &mut impl Sink) -> Option<Drawn> {
     let to = Beam { x: coordinate(bytes[0], bytes[1]), y: coordinate(bytes[2], bytes[3]) };
-    draw_move(to, bytes[0] & 0x40 != 0, vector, setting, list)
+    draw_move(to, false, bytes[0] & 0x40 != 0, vector, setting, list)
 }
 
 /// A word of data in an incremental mode.
 #[inline(always)]
 pub fn draw_increment(bytes: [u8; 2], vector: bool, setting: Setting, list: &mut impl Sink) -> Option<Drawn> {
     let Beam { x, y } = setting.beam;
-    let to = Beam { x: add_increment(x, bytes[0]), y: add_increment(y, bytes[1]) };
-    draw_move(to, bytes[1] & 1 != 0, vector, setting, list)
+    let ((x, x_off), (y, y_off)) = (add_increment(x, bytes[0]), add_increment(y, bytes[1]));
+    draw_move(Beam { x, y }, x_off || y_off, bytes[1] & 1 != 0, vector, setting, list)
 }
 
 #[inline(always)]
-fn draw_move(to: Beam, blanked: bool, vector: bool, setting: Setting, list: &mut impl Sink) -> Option<Drawn> {
+fn draw_move(
+    to: Beam,
+    off: bool,
+    blanked: bool,
+    vector: bool,
+    setting: Setting,
+    list: &mut impl Sink,
+) -> Option<Drawn> {
     let Setting { address, beam: from, sight } = setting;
     if blanked {
         return Some(Drawn { beam: to, detected: None });
@@ -183,7 +191,7 @@ fn draw_move(to: Beam, blanked: bool, vector: bool, setting: Setting, list: &mut
     if list.room() == 0 {
         return None;
     }
-    list.put(if vector { Item::Vector { from, to, address } } else { Item::Point { at: to, address } });
+    list.put(if vector { Item::Vector { from, to, off, address } } else { Item::Point { at: to, off, address } });
     Some(Drawn { beam: to, detected: (sight == 1).then_some(address) })
 }
 
@@ -258,7 +266,11 @@ mod tests {
     #[test]
     fn measured_examples() {
         assert_eq!([coordinate(0, 3), coordinate(0, 4), coordinate(0x0F, 0xFF)], [0, 1, 1023]);
-        assert_eq!([0x7E, 0x80, 0xFE].map(|b| add_increment(100, b)), [163, 36, 99]);
+        assert_eq!([0x7E, 0x80, 0xFE].map(|b| add_increment(100, b)), [(163, false), (36, false), (99, false)]);
+        assert_eq!(
+            [(1000, 0x7E), (0, 0xFE), (1023, 0x00)].map(|(c, b)| add_increment(c, b)),
+            [(39, true), (1023, true), (1023, false)]
+        );
         let space = |x, size| Beam { x, y: 500 }.space(size);
         assert_eq!(space(1008, CharacterSize::Basic), Beam { x: 1022, y: 500 });
         assert_eq!(space(1022, CharacterSize::Basic), Beam { x: 0, y: 480 });

@@ -85,7 +85,7 @@ takes-none d kept piece out =
 pub takes-line : (d : Dialogue) (kept kept′ piece out out′ : List ℕ) (at : ℕ) (direct : Bool) (count used : ℕ) (line : Line) (told : Spoken)
     → line ≡ Whole direct count used
     → LineFound (openLine (d .seen) kept) piece kept′ line
-    → at + 471200 ≤ length out
+    → at + 487600 ≤ length out
     → Speaks (saidOf (d .device) (take count (cond direct piece kept′))) out at out′ told
     → TakesIn d kept piece out at (taken (dialogue (told .device) 0) used (told .end)) kept′ out′ × (0 < used)
 takes-line d kept kept′ piece out out′ at direct count used line told e found room speaks =
@@ -107,7 +107,7 @@ takes-line d kept kept′ piece out out′ at direct count used line told e foun
 
 pub takes-open : (d : Dialogue) (kept kept′ piece out : List ℕ) (at seen : ℕ) (line : Line) → line ≡ Open seen
     → LineFound (openLine (d .seen) kept) piece kept′ line
-    → at + 471200 ≤ length out
+    → at + 487600 ≤ length out
     → TakesIn d kept piece out at (taken (dialogue (d .device) seen) (length piece) at) kept′ out
 unfolding endOf
 takes-open d kept kept′ piece out at seen line e found room =
@@ -168,7 +168,7 @@ module _ (d : Dialogue) (kept line : List ℕ) (is : line ≡ openLine (d .seen)
       puts-as out 0 (saidOf (d .device) line .text) (toCome d kept []) (told .end) out′ (sym (last-said (omega arith)))
       (speaks .end, speaks .lines)
 
-pub closed-short : (d : Dialogue) (kept : List ℕ) → length (toCome d kept []) ≤ 471200
+pub closed-short : (d : Dialogue) (kept : List ℕ) → length (toCome d kept []) ≤ 487600
 closed-short d kept =
     let line : List ℕ = openLine (d .seen) kept in
     elim (decLt 0 (length line)) [
@@ -209,7 +209,7 @@ module _ (d e : Dialogue) (kept kept₁ piece out out₁ : List ℕ) (used end :
       (takes-on d e kept kept₁ kept₂ piece rest out out₁ out₂ used end next (p .takes) is q)
 
   -- where an answer might find no room, and at the piece's end
-  pub leaves-full : length out₁ - end < 471200 → LeavesOver piece out (taken e used end)
+  pub leaves-full : length out₁ - end < 487600 → LeavesOver piece out (taken e used end)
   leaves-full full =
       record {
         all = λ room. absurd (omega (arith, p .size));

@@ -34,8 +34,8 @@ pub record TakesIn (d : Dialogue) (kept piece out : List ℕ) (at : ℕ) (taken 
 
 -- a piece is left over only where an answer might find no room; where it does at first, some of the piece is used
 pub record LeavesOver (piece out : List ℕ) (taken : Taken) : Type 0 where
-  pub all : taken .end + 471200 ≤ length out → taken .used ≡ length piece
-  pub some : 471200 ≤ length out → 0 < length piece → 0 < taken .used
+  pub all : taken .end + 487600 ≤ length out → taken .used ≡ length piece
+  pub some : 487600 ≤ length out → 0 < length piece → 0 < taken .used
 
 -- CALLS OF `feed`, one behind the other: all bytes that they used, and all that they put into the buffer
 pub data Feedings : Dialogue → List ℕ → List ℕ → List ℕ → Dialogue → List ℕ → Type 0 where

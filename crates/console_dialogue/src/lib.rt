@@ -69,7 +69,7 @@ fn advance(
     out: &mut [u8],
     at: usize,
 ) -> Taken
-    requires { ⌜ (at + 471200 ≤ length (now out)) × (0 < length (now piece)) ⌝ }
+    requires { ⌜ (at + 487600 ≤ length (now out)) × (0 < length (now piece)) ⌝ }
     ensures { λ r. ⌜ TakesIn dialogue (now (kept .entry)) (now (piece .entry)) (now (out .entry)) at r (now (kept .exit)) (now (out .exit)) ⌝ }
     ensures { λ r. ⌜ 0 < r .used ⌝ }
 {
@@ -101,7 +101,7 @@ fn advance(
 }
 
 // Feeds a piece: the answers of the lines that are whole stand one behind the other at the front of the buffer. Stops before the
-// piece's end only where fewer than 471,200 bytes are free.
+// piece's end only where fewer than 487,600 bytes are free.
 pub fn feed(dialogue: Dialogue, kept: &mut [u8; LINE], piece: &[u8], out: &mut [u8]) -> Taken
     ensures { λ r. ⌜ TakesIn dialogue (now (kept .entry)) (now (piece .entry)) (now (out .entry)) 0 r (now (kept .exit)) (now (out .exit)) ⌝ }
     ensures { λ r. ⌜ LeavesOver (now (piece .entry)) (now (out .entry)) r ⌝ }
@@ -110,7 +110,7 @@ pub fn feed(dialogue: Dialogue, kept: &mut [u8; LINE], piece: &[u8], out: &mut [
     let mut used = 0;
     let mut end = 0;
     while used < piece.len() {
-        if out.len() - end < 471200 {
+        if out.len() - end < 487600 {
             return Taken {
                 dialogue: state,
                 used,

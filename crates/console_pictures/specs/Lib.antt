@@ -1,1 +1,2 @@
 pub mod Pictures
+pub mod Cases

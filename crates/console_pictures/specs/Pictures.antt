@@ -1,7 +1,7 @@
--- The lines of drawn items: `point X Y at A`, `vector X Y X Y at A`, `character X Y code CC basic at A` (or `large`), `cursor X Y code CC basic at A`.
+-- The lines of drawn items: `point X Y at A`, `vector X Y X Y at A`, with `off` before `at` where the screen was left, `character X Y code CC basic at A` (or `large`), `cursor X Y code CC basic at A`.
 use Prim.Native.Nat.{ℕ, _+_, _*_, _/_, _%_, min}
 use mathlib.Core.Bool.{cond}
-use mathlib.Core.List.{List, _++_}
+use mathlib.Core.List.{List, [], _++_}
 use lib.ListN.{getD, length}
 use lib.Dec.{eqb}
 use Rattle.text_put.specs.Text.{spelled, named}
@@ -11,11 +11,15 @@ use Rattle.console_phrases.specs.Phrases.{paired, byteNamed, eachOf}
 abbrev pub atText : ℕ → List ℕ
 atText a = named (spelled " at ") a ++ spelled "\n"
 
-abbrev pub pointLine : ℕ → ℕ → ℕ → List ℕ
-pointLine x y a = paired (spelled "point ") x y ++ atText a
+-- ` off` before it, for a point or vector that "carries 1 in its code field" (02, C-19)
+abbrev pub leftText : ℕ → ℕ → List ℕ
+leftText code a = cond (eqb code 1) (spelled " off") [] ++ atText a
 
-abbrev pub vectorLine : ℕ → ℕ → ℕ → ℕ → ℕ → List ℕ
-vectorLine x₀ y₀ x y a = paired (spelled "vector ") x₀ y₀ ++ paired (spelled " ") x y ++ atText a
+abbrev pub pointLine : ℕ → ℕ → ℕ → ℕ → List ℕ
+pointLine x y code a = paired (spelled "point ") x y ++ leftText code a
+
+abbrev pub vectorLine : ℕ → ℕ → ℕ → ℕ → ℕ → ℕ → List ℕ
+vectorLine x₀ y₀ x y code a = paired (spelled "vector ") x₀ y₀ ++ paired (spelled " ") x y ++ leftText code a
 
 -- ` code CC basic`, or `large`: "size (1 basic, 2 large)"
 abbrev pub codeText : ℕ → ℕ → List ℕ
@@ -28,8 +32,8 @@ symbolLine word x y code size a = paired word x y ++ codeText code size ++ atTex
 -- an item by its eight numbers: "kind (1 point, 2 vector, 3 character, 4 cursor), from X, from Y, to X, to Y, code, size, address"
 unfoldable pub itemLine : ℕ → ℕ → ℕ → ℕ → ℕ → ℕ → ℕ → ℕ → List ℕ
 itemLine kind x₀ y₀ x y code size a =
-    cond (eqb kind 1) (pointLine x y a)
-    (cond (eqb kind 2) (vectorLine x₀ y₀ x y a)
+    cond (eqb kind 1) (pointLine x y code a)
+    (cond (eqb kind 2) (vectorLine x₀ y₀ x y code a)
     (cond (eqb kind 3) (symbolLine (spelled "character ") x y code size a) (symbolLine (spelled "cursor ") x y code size a)))
 
 -- the item of an index in a list of items, eight numbers each

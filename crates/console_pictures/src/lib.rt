@@ -7,7 +7,7 @@ ghost use mathlib.Core.Path.{_≡_};
 ghost use Prim.Native.Nat.{_+_, _*_, _/_, _≤_, min};
 ghost use lib.ListN.{length};
 ghost use Rattle.text_put.specs.Text.{putAt, endOf};
-ghost use Rattle.console_pictures.specs.Pictures.{atText, pointLine, vectorLine, codeText, symbolLine, itemLine, itemLineAt, itemsText};
+ghost use Rattle.console_pictures.specs.Pictures.{atText, leftText, pointLine, vectorLine, codeText, symbolLine, itemLine, itemLineAt, itemsText};
 
 // Puts the address that ends an item's line.
 fn put_at(buffer: &mut [u8], at: usize, a: u16) -> usize
@@ -18,23 +18,41 @@ fn put_at(buffer: &mut [u8], at: usize, a: u16) -> usize
     text::put(buffer, middle, b"\n")
 }
 
-// Puts the line of a point.
-fn put_point(buffer: &mut [u8], at: usize, x: u16, y: u16, a: u16) -> usize
-    ensures { λ r. ⌜ r ≡ endOf (now (buffer .entry)) at (pointLine x y a) ⌝ }
-    ensures { λ _. ⌜ now (buffer .exit) ≡ putAt (now (buffer .entry)) at (pointLine x y a) ⌝ }
+// Puts what ends the line of a point or vector: `off` where the screen was left, and the address.
+fn put_left(buffer: &mut [u8], at: usize, off: u16, a: u16) -> usize
+    ensures { λ r. ⌜ r ≡ endOf (now (buffer .entry)) at (leftText off a) ⌝ }
+    ensures { λ _. ⌜ now (buffer .exit) ≡ putAt (now (buffer .entry)) at (leftText off a) ⌝ }
 {
-    let middle = phrases::put_paired(buffer, at, b"point ", x, y);
+    let middle = phrases::put_either(buffer, at, off == 1, b" off", b"");
     put_at(buffer, middle, a)
 }
 
+// Puts the line of a point.
+fn put_point(buffer: &mut [u8], at: usize, x: u16, y: u16, off: u16, a: u16) -> usize
+    ensures { λ r. ⌜ r ≡ endOf (now (buffer .entry)) at (pointLine x y off a) ⌝ }
+    ensures { λ _. ⌜ now (buffer .exit) ≡ putAt (now (buffer .entry)) at (pointLine x y off a) ⌝ }
+{
+    let middle = phrases::put_paired(buffer, at, b"point ", x, y);
+    put_left(buffer, middle, off, a)
+}
+
 // Puts the line of a vector.
-fn put_vector(buffer: &mut [u8], at: usize, x0: u16, y0: u16, x: u16, y: u16, a: u16) -> usize
-    ensures { λ r. ⌜ r ≡ endOf (now (buffer .entry)) at (vectorLine x0 y0 x y a) ⌝ }
-    ensures { λ _. ⌜ now (buffer .exit) ≡ putAt (now (buffer .entry)) at (vectorLine x0 y0 x y a) ⌝ }
+fn put_vector(
+    buffer: &mut [u8],
+    at: usize,
+    x0: u16,
+    y0: u16,
+    x: u16,
+    y: u16,
+    off: u16,
+    a: u16,
+) -> usize
+    ensures { λ r. ⌜ r ≡ endOf (now (buffer .entry)) at (vectorLine x0 y0 x y off a) ⌝ }
+    ensures { λ _. ⌜ now (buffer .exit) ≡ putAt (now (buffer .entry)) at (vectorLine x0 y0 x y off a) ⌝ }
 {
     let first = phrases::put_paired(buffer, at, b"vector ", x0, y0);
     let second = phrases::put_paired(buffer, first, b" ", x, y);
-    put_at(buffer, second, a)
+    put_left(buffer, second, off, a)
 }
 
 // Puts a code and the size that it is drawn in.
@@ -82,10 +100,10 @@ fn put_item(
     ensures { λ _. ⌜ now (buffer .exit) ≡ putAt (now (buffer .entry)) at (itemLine kind x0 y0 x y code size a) ⌝ }
 {
     if kind == 1 {
-        return put_point(buffer, at, x, y, a);
+        return put_point(buffer, at, x, y, code, a);
     }
     if kind == 2 {
-        return put_vector(buffer, at, x0, y0, x, y, a);
+        return put_vector(buffer, at, x0, y0, x, y, code, a);
     }
     if kind == 3 {
         return put_symbol(buffer, at, b"character ", x, y, code, size, a);

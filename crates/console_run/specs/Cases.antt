@@ -5,10 +5,10 @@ use mathlib.Core.Bool.{true, false}
 use mathlib.Core.List.{List, [], _∷_, map}
 use lib.Count.{ones, onesIn}
 use Rattle.ground_orders.specs.Orders.{table, findIn, orderOf}
-use Rattle.ground_orders.specs.declared.Mode.the-variants.{Idle, Point, Vector, Basic}
+use Rattle.ground_orders.specs.declared.Mode.the-variants.{Idle, Point, Vector, IncrementalVector, Basic}
 use Rattle.ground_groups.specs.Groups.{wordsGroup}
 use Rattle.ground_look.specs.Look.{lookOf}
-use Rattle.unit_beam.specs.Beam.{placed, blankedPlace, lineBelow, newLine, afterCharacter}
+use Rattle.unit_beam.specs.Beam.{placed, blankedPlace, increment, exactSum, summed, stepped, leavesScreen, blankedStep, lineBelow, newLine, afterCharacter}
 use Rattle.unit_pen.specs.Pen.{fresh, detects, seenOf, spentPen, detected}
 use Rattle.unit_items.specs.Items.{listing, listed}
 use Rattle.unit_motion.specs.Codes.{draws, afterCode}
@@ -18,7 +18,7 @@ use Rattle.unit_head.specs.Head.{DisplayUnit, noSense}
 use Rattle.unit_sense.specs.Sense.{sensing, senseJoined}
 use Rattle.unit_step.specs.Step.{stepOver, stepFrom, itemsDrawn}
 use Rattle.unit_step.specs.Run.{stepsFrom, stepsDone}
-use Rattle.unit_step.specs.Samples.{shows, ending, unknown, twoPoints, cutShort, pointed, armed, spent, nines}
+use Rattle.unit_step.specs.Samples.{shows, ending, unknown, twoPoints, twoSteps, cutShort, pointed, armed, spent, nines}
 use Rattle.unit_advance.specs.Advance.{progressOver, allSights, goneOver, unitAdvance}
 use Rattle.unit_list.specs.List.{nextItems, unitList}
 use Rattle.console_run.specs.Pair.{RunValues, RunEnd, runEnd, pairFrom, pairRun}
@@ -45,6 +45,10 @@ runCases =
     ∷ runCase (shows twoPoints 0 0 Point true 3 5 fresh 0 noSense) (0 ∷ 0 ∷ []) (nines 17)
     (runEnd (shows twoPoints 0 8 Point true 3 4 fresh 0 noSense) (RunValues.ran 2 0 2)
     (1 ∷ 1 ∷ 2 ∷ 1 ∷ 2 ∷ 0 ∷ 0 ∷ 0 ∷ 1 ∷ 3 ∷ 4 ∷ 3 ∷ 4 ∷ 0 ∷ 0 ∷ 4 ∷ 9 ∷ []))
+    -- each step is judged by itself: the first leaves the screen, the second does not (02, C-19)
+    ∷ runCase (shows twoSteps 0 0 IncrementalVector true 1000 5 fresh 0 noSense) (0 ∷ 0 ∷ []) (nines 16)
+    (runEnd (shows twoSteps 0 4 IncrementalVector true 40 5 fresh 0 noSense) (RunValues.ran 2 0 2)
+    (2 ∷ 1000 ∷ 5 ∷ 39 ∷ 5 ∷ 1 ∷ 0 ∷ 0 ∷ 2 ∷ 39 ∷ 5 ∷ 40 ∷ 5 ∷ 0 ∷ 0 ∷ 2 ∷ []))
     -- "9 items don't fit": the step is not done, and "the unit still runs at that place"
     ∷ runCase (shows twoPoints 0 0 Point true 3 5 fresh 0 noSense) (0 ∷ 0 ∷ []) (nines 15)
     (runEnd (shows twoPoints 0 4 Point true 1 2 fresh 0 noSense) (RunValues.ran 1 9 1) (1 ∷ 1 ∷ 2 ∷ 1 ∷ 2 ∷ 0 ∷ 0 ∷ 0 ∷ 9 ∷ 9 ∷ 9 ∷ 9 ∷ 9 ∷ 9 ∷ 9 ∷ []))
@@ -62,5 +66,5 @@ runCases =
 
 -- each case of the table holds
 pub run-cases : map (λ (c : RunCase). pairRun (c .before) (c .sights) (c .lent)) runCases ≡ map (λ (c : RunCase). c .after) runCases
-unfolding pairRun pairFrom unitAdvance allSights goneOver progressOver stepsFrom stepsDone stepFrom stepOver unitList nextItems itemsDrawn lookOf wordsGroup orderOf findIn table listing listed motionOf twoOf fourOf beamAfter draws afterCode strokesOf codesStrokes codeStrokes showsCursor hasCursor upto hitIn placed blankedPlace lineBelow newLine afterCharacter detects seenOf spentPen detected senseJoined ones onesIn
+unfolding pairRun pairFrom unitAdvance allSights goneOver progressOver stepsFrom stepsDone stepFrom stepOver unitList nextItems itemsDrawn lookOf wordsGroup orderOf findIn table listing listed motionOf twoOf fourOf beamAfter draws afterCode strokesOf codesStrokes codeStrokes showsCursor hasCursor upto hitIn placed blankedPlace increment exactSum summed stepped leavesScreen blankedStep lineBelow newLine afterCharacter detects seenOf spentPen detected senseJoined ones onesIn
 run-cases = refl

@@ -1,4 +1,4 @@
--- No answer has more than 471,200 bytes: a run's line and the lines of its items, 4,096 of them at most, each of 115 bytes at most.
+-- No answer has more than 487,600 bytes: a run's line and the lines of its items, 4,096 of them at most, each of 119 bytes at most.
 use Prim.Native.Nat.{ℕ, suc, _+_, _*_, _/_, _≤_, min}
 use mathlib.Core.Path.{_≡_, refl}
 use mathlib.Core.Bool.{Bool, true, false, cond}
@@ -60,25 +60,28 @@ abbrev Short : ℕ → List ℕ → Type 0
 Short most text = length text ≤ most
 
 -- the line of an item
-point-short : (x y a : ℕ) → Short 115 (pointLine x y a)
-point-short x y a = simp length-append (omega (arith, length-decimal 20 x, length-decimal 20 y, length-decimal 20 a))
+off-short : (code : ℕ) → Short 4 (cond (eqb code 1) (spelled " off") [])
+off-short code = either-way (Short 4) (eqb code 1) {x = spelled " off"} {y = []} (omega arith) (omega arith)
 
-vector-short : (x₀ y₀ x y a : ℕ) → Short 115 (vectorLine x₀ y₀ x y a)
-vector-short x₀ y₀ x y a =
+point-short : (x y code a : ℕ) → Short 119 (pointLine x y code a)
+point-short x y code a = simp length-append (omega (arith, off-short code, length-decimal 20 x, length-decimal 20 y, length-decimal 20 a))
+
+vector-short : (x₀ y₀ x y code a : ℕ) → Short 119 (vectorLine x₀ y₀ x y code a)
+vector-short x₀ y₀ x y code a =
     simp length-append
-    (omega (arith, length-decimal 20 x₀, length-decimal 20 y₀, length-decimal 20 x, length-decimal 20 y, length-decimal 20 a))
+    (omega (arith, off-short code, length-decimal 20 x₀, length-decimal 20 y₀, length-decimal 20 x, length-decimal 20 y, length-decimal 20 a))
 
-symbol-short : (word : List ℕ) (x y code size a : ℕ) → length word ≤ 10 → Short 115 (symbolLine word x y code size a)
+symbol-short : (word : List ℕ) (x y code size a : ℕ) → length word ≤ 10 → Short 119 (symbolLine word x y code size a)
 symbol-short word x y code size a h =
     let sized = either-way (Short 6) (eqb size 1) {x = spelled " basic"} {y = spelled " large"} (omega arith) (omega arith) in
     simp length-append (omega (arith, sized, length-decimal 20 x, length-decimal 20 y, length-decimal 20 a))
 
-item-short : (kind x₀ y₀ x y code size a : ℕ) → Short 115 (itemLine kind x₀ y₀ x y code size a)
+item-short : (kind x₀ y₀ x y code size a : ℕ) → Short 119 (itemLine kind x₀ y₀ x y code size a)
 unfolding itemLine
 item-short kind x₀ y₀ x y code size a =
-    either-way (Short 115) (eqb kind 1) (point-short x y a)
-    (either-way (Short 115) (eqb kind 2) (vector-short x₀ y₀ x y a)
-    (either-way (Short 115) (eqb kind 3) (symbol-short (spelled "character ") x y code size a (omega arith))
+    either-way (Short 119) (eqb kind 1) (point-short x y code a)
+    (either-way (Short 119) (eqb kind 2) (vector-short x₀ y₀ x y code a)
+    (either-way (Short 119) (eqb kind 3) (symbol-short (spelled "character ") x y code size a (omega arith))
     (symbol-short (spelled "cursor ") x y code size a (omega arith))))
 
 -- a command gives no more bytes than its room has
@@ -134,12 +137,12 @@ command-gives u code bytes room = by (sentBy (sizeIn u) (this-row .takes) bytes)
 
 -- the lines of the answers
 abbrev ShortSaid : Said → Type 0
-ShortSaid s = Short 471200 (s .text)
+ShortSaid s = Short 487600 (s .text)
 
-refusal-short : (n : ℕ) → Short 471200 (refusalLine n)
+refusal-short : (n : ℕ) → Short 487600 (refusalLine n)
 refusal-short n = simp length-append (omega (arith, length-decimal 20 n))
 
-status-short : (status : ℕ) (room : List ℕ) (count : ℕ) → count ≤ 65535 → Short 471200 (statusLine status room count)
+status-short : (status : ℕ) (room : List ℕ) (count : ℕ) → count ≤ 65535 → Short 487600 (statusLine status room count)
 status-short status room count h =
     let bytes = each-short (λ i. hexByte (getD room i 0)) 2 (λ i. omega arith) count in
     let given =
@@ -151,17 +154,17 @@ size-least : (s : Size) → sizeOf s ≤ 8192
 size-least K4 = omega arith
 size-least K8 = omega arith
 
-words-short : (words : List ℕ) (s : Size) (from count : ℕ) → Short 471200 (wordsLine words (sizeOf s) from count)
+words-short : (words : List ℕ) (s : Size) (from count : ℕ) → Short 487600 (wordsLine words (sizeOf s) from count)
 words-short words s from count =
     let text = each-short (λ i. hexWord (getD words (from + i) 0)) 4 (λ i. omega arith) count in
-    either-way (Short 471200) (eqb count 0) (omega arith)
-    (by-test (Short 471200) (leb (from + count) (sizeOf s))
+    either-way (Short 487600) (eqb count 0) (omega arith)
+    (by-test (Short 487600) (leb (from + count) (sizeOf s))
     (λ e. simp length-append (omega (arith, leb-true (from + count) (sizeOf s) e, size-least s)))
     (λ e. omega arith))
 
-ran-short : (steps why items : ℕ) (list : List ℕ) → length list ≤ 32768 → Short 471200 (ranLine steps why items ++ itemsText list items)
+ran-short : (steps why items : ℕ) (list : List ℕ) → length list ≤ 32768 → Short 487600 (ranLine steps why items ++ itemsText list items)
 ran-short steps why items list h =
-    let lines = each-short (itemLineAt list) 115 (λ i. item-short _ _ _ _ _ _ _ _) (min items (length list / 8)) in
+    let lines = each-short (itemLineAt list) 119 (λ i. item-short _ _ _ _ _ _ _ _) (min items (length list / 8)) in
     simp length-append (omega (arith, length-decimal 20 steps, length-decimal 20 why, length-decimal 20 items))
 
 mode-short : (m : Mode) → Short 13 (modeText m)
@@ -178,7 +181,7 @@ pen-short pen.Normal = omega arith
 pen-short pen.Disabled = omega arith
 pen-short pen.NoSwitch = omega arith
 
-state-short : (h : Head) → Short 471200 (stateLine h)
+state-short : (h : Head) → Short 487600 (stateLine h)
 state-short h =
     let word : (t : Bool) (a b : List ℕ) → Short 14 a → Short 14 b → Short 14 (cond t a b) = λ t a b p q. either-way (Short 14) t p q in
     let runs = word (h .state .running) (spelled "running") (spelled "stopped") (omega arith) (omega arith) in
@@ -235,11 +238,11 @@ by-within d line (request.Words from count) fit = words-short (d .words) (d .hea
 by-within d line (request.Key number) fit =
     let end = unitKey (unitOf d) number in
     key-within (deviceOf (end .unit)) (end .answer)
-by-within d line request.Cursor fit = either-way (Short 471200) (anyCursor d) (omega arith) (omega arith)
+by-within d line request.Cursor fit = either-way (Short 487600) (anyCursor d) (omega arith) (omega arith)
 by-within d line request.Empty fit = omega arith
 by-within d line request.Error fit = omega arith
 
-pub said-within : (d : Device) (line : List ℕ) → length (saidOf d line .text) ≤ 471200
+pub said-within : (d : Device) (line : List ℕ) → length (saidOf d line .text) ≤ 487600
 unfolding saidOf
 said-within d line =
     either-way ShortSaid (leb (length line) 40000) (by-within d line (requestOf line) (request-fits line)) (omega arith)

@@ -95,7 +95,7 @@ holding-on d d′ kept kept′ piece output output′ count n size still p h =
     }
 
 -- the end of the input
-pub holding-closed : (d : Dialogue) (kept out out′ : List ℕ) (output : Output) (count end : ℕ) (r : Streamed) → 471200 ≤ length out
+pub holding-closed : (d : Dialogue) (kept out out′ : List ℕ) (output : Output) (count end : ℕ) (r : Streamed) → 487600 ≤ length out
     → Puts out 0 (toCome d kept []) end out′
     → Handed output (length out′) end (r .output)
     → r .output .open ≡ true
@@ -113,6 +113,6 @@ holding-closed d kept out out′ output count end r room put wrote still came h 
     }
 
 -- buffers of zeros have their size
-pub rooms : (small large : ℕ) → small ≤ 65536 → 471200 ≤ large
-    → (length (replicate {A = ℕ} small 0) ≤ 65536) × (471200 ≤ length (replicate {A = ℕ} large 0))
+pub rooms : (small large : ℕ) → small ≤ 65536 → 487600 ≤ large
+    → (length (replicate {A = ℕ} small 0) ≤ 65536) × (487600 ≤ length (replicate {A = ℕ} large 0))
 rooms small large p q = (omega (arith, length-replicate {A = ℕ} small 0), omega (arith, length-replicate {A = ℕ} large 0))

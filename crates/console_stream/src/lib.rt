@@ -30,7 +30,7 @@ fn convey(
     out: &mut [u8],
     output: Output,
 ) -> Conveyed
-    requires { ⌜ 471200 ≤ length (now out) ⌝ }
+    requires { ⌜ 487600 ≤ length (now out) ⌝ }
     ensures { λ r. ⌜ Conveys dialogue (now (kept .entry)) (now (piece .entry)) output (r .dialogue) (now (kept .exit)) (r .output) ⌝ }
 {
     let mut state = dialogue;
@@ -58,7 +58,7 @@ fn finish(
     output: Output,
     count: usize,
 ) -> Streamed
-    requires { ⌜ 471200 ≤ length (now out) ⌝ }
+    requires { ⌜ 487600 ≤ length (now out) ⌝ }
     ensures { λ r. ⌜ (Holding dialogue (now (kept .entry)) output count → Holds r) ⌝ }
 {
     let Came::End = came else {
@@ -75,7 +75,7 @@ fn finish(
 
 // Answers the input, piece by piece.
 fn hold_in(buffer: &mut [u8], kept: &mut [u8; LINE], out: &mut [u8]) -> Streamed
-    requires { ⌜ (length (now buffer) ≤ 65536) × (471200 ≤ length (now out)) ⌝ }
+    requires { ⌜ (length (now buffer) ≤ 65536) × (487600 ≤ length (now out)) ⌝ }
     ensures { λ r. ⌜ Holds r ⌝ }
 {
     let mut state = dialogue::begin();

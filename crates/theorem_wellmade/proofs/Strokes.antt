@@ -8,6 +8,7 @@ use Rattle.ground_setup.proofs.Laws.{below}
 use Rattle.unit_beam.specs.declared.Beam.{Beam}
 use Rattle.unit_beam.specs.declared.CharacterSize.{CharacterSize}
 use Rattle.unit_motion.specs.Codes.{draws, afterCode}
+use Rattle.unit_motion.specs.Motion.{offOf}
 use Rattle.unit_motion.specs.declared.Trace.{Trace}
 use Rattle.unit_motion.specs.declared.Trace.the-variants as trace
 use Rattle.unit_motion.specs.declared.Motion.{Motion}
@@ -28,10 +29,10 @@ module _ (s : Size) where
   joined-made [] ls h l = l
   joined-made (k ∷ ks) ls h l = (h .0, h .1, joined-made ks ls (h .2) l)
 
-  trace-made : (t : Trace) (beam to : Beam) (at : ℕ) → BeamMade to → at < sizeOf s → StrokesMade (traceStrokes t beam to at)
-  trace-made trace.Blanked beam to at m h = tt
-  trace-made trace.Point beam to at m h = (h, m, tt)
-  trace-made trace.Vector beam to at m h = (h, m, tt)
+  trace-made : (t : Trace) (beam to : Beam) (off : Bool) (at : ℕ) → BeamMade to → at < sizeOf s → StrokesMade (traceStrokes t beam to off at)
+  trace-made trace.Blanked beam to off at m h = tt
+  trace-made trace.Point beam to off at m h = (h, m, tt)
+  trace-made trace.Vector beam to off at m h = (h, m, tt)
 
   shown-made : (shown : Bool) (k : Stroke) → itemAddress (k .item) < sizeOf s → BeamMade (k .end) → StrokesMade (cond shown (k ∷ []) [])
   shown-made true k h m = (h, m, tt)
@@ -49,7 +50,7 @@ module _ (s : Size) where
   pub strokes-made : (m : Motion) (beam : Beam) (c0 c1 : Bool) (at : ℕ) → MotionMade m → BeamMade beam → StrokesMade (strokesOf m beam c0 c1 s at)
   unfolding strokesOf codesStrokes
   strokes-made Still beam c0 c1 at h b = tt
-  strokes-made (To k t to) beam c0 c1 at h b = trace-made t beam to (wrapOf s at) h (below s at)
+  strokes-made (To k t to) beam c0 c1 at h b = trace-made t beam to (offOf k) (wrapOf s at) h (below s at)
   strokes-made (Codes z x y) beam c0 c1 at h b =
       let then = aheadOf s at 1 in
       let beam′ = afterCode z x beam in

@@ -8,13 +8,15 @@ use lib.ListN.{length, take, getD, length-append}
 use Rattle.ground_location.specs.Location.{dataOf, cursorOf}
 use Rattle.ground_look.specs.Look.{placing}
 use Rattle.ground_orders.specs.declared.Mode.the-variants as mode
+use Rattle.unit_beam.specs.Beam.{shifted}
 use Rattle.unit_beam.specs.declared.Beam.{Beam}
+use Rattle.unit_beam.specs.declared.Shift.{Shift}
 use Rattle.unit_beam.specs.declared.CharacterSize.{CharacterSize}
 use Rattle.unit_beam.specs.declared.CharacterSize.the-variants.{Basic, Large}
 use Rattle.unit_motion.specs.Codes.{draws, afterCode}
 use Rattle.unit_drawing.specs.Drawing.{Stroke, stroke, pointAt, vectorAt, characterAt, cursorAt, traceStrokes, hasCursor, codeStrokes, codesStrokes, strokesOf, upto}
 use Rattle.unit_drawing.proofs.Laws.{along, missed, unseen}
-use Rattle.unit_motion.specs.Motion.{traceBy, twoOf, fourOf, beamAfter, dataMotion}
+use Rattle.unit_motion.specs.Motion.{traceBy, twoOf, fourOf, offOf, beamAfter, dataMotion}
 use Rattle.unit_motion.specs.declared.Motion.{Motion}
 use Rattle.unit_motion.specs.declared.Motion.the-variants.{To, Codes}
 use Rattle.unit_motion.specs.declared.Moved.the-variants.{Absolute, Increment}
@@ -80,11 +82,16 @@ unfolding codesStrokes
 codes-drawn size a b c0 c1 beam at next = drawn-append (codeStrokes size a c0 beam at) (codeStrokes size b c1 (afterCode size a beam) next)
 
 -- coordinates or increments draw a point or a vector, or nothing where they are blanked
-pub trace-drawn : (blanked vector : Bool) (from to : Beam) (at : ℕ)
-    → upto 0 (traceStrokes (traceBy blanked (cond vector trace.Vector trace.Point)) from to at) ≡ cond (not blanked) (traceItem vector from to at ∷ []) []
-trace-drawn true vector from to at = all-drawn []
-trace-drawn false true from to at = all-drawn (stroke (vectorAt from to at) to ∷ [])
-trace-drawn false false from to at = all-drawn (stroke (pointAt to at) to ∷ [])
+pub trace-drawn : (blanked vector : Bool) (from : Beam) (shift : Shift) (at : ℕ)
+    → upto 0 (traceStrokes (traceBy blanked (cond vector trace.Vector trace.Point)) from (shift .to) (shift .off) at) ≡ cond (not blanked) (traceItem vector from shift at ∷ []) []
+trace-drawn true vector from shift at = all-drawn []
+trace-drawn false true from shift at = all-drawn (stroke (vectorAt from (shift .to) (shift .off) at) (shift .to) ∷ [])
+trace-drawn false false from shift at = all-drawn (stroke (pointAt (shift .to) (shift .off) at) (shift .to) ∷ [])
+
+-- an absolute coordinate leaves the screen never
+off-led : (places : Bool) (a b c d : ℕ) (beam : Beam) → offOf (cond places Absolute (Increment (ledTo places a b c d beam .off))) ≡ ledTo places a b c d beam .off
+off-led true a b c d beam = refl
+off-led false a b c d beam = refl
 
 -- A STRETCH AS FAR AS IT IS LISTED: i steps from the state s, to x; the list holds n items
 pub record AheadOn (b : Buffer) (sights : List ℕ) (s : State) (held : ℕ) (out : List ℕ) (i : ℕ) (x : State) (n : ℕ) (out′ : List ℕ) : Type 0 where
@@ -169,14 +176,15 @@ module _ (words : List ℕ) (k : Cursor) (sights : List ℕ) (s : State) (held :
       pub on-trace : (vector : Bool) → Traces (s .mode) vector → (held′ : ℕ) (out″ : List ℕ)
           → listing (length out′) n (cond (not (blankedOf (placing (s .mode)) first (byte 1))) (traceItem vector (x .beam) (ledTo (placing (s .mode)) first (byte 1) (byte 2) (byte 3) (x .beam)) (x .address) ∷ []) []) ≡ Held held′
           → out″ ≡ listed out′ n (cond (not (blankedOf (placing (s .mode)) first (byte 1))) (traceItem vector (x .beam) (ledTo (placing (s .mode)) first (byte 1) (byte 2) (byte 3) (x .beam)) (x .address) ∷ []) [])
-          → AheadOn (buffer words k) sights s held out (i + 1) (beamed x (x .address + spanOf (placing (s .mode))) (ledTo (placing (s .mode)) first (byte 1) (byte 2) (byte 3) (x .beam))) held′ out″
+          → AheadOn (buffer words k) sights s held out (i + 1) (beamed x (x .address + spanOf (placing (s .mode))) (ledTo (placing (s .mode)) first (byte 1) (byte 2) (byte 3) (x .beam) .to)) held′ out″
       unfolding strokesOf beamAfter
       on-trace vector traces held′ out″ f g =
-          let to = ledTo (placing (s .mode)) first (byte 1) (byte 2) (byte 3) (x .beam) in
+          let shift = ledTo (placing (s .mode)) first (byte 1) (byte 2) (byte 3) (x .beam) in
           let blanked = blankedOf (placing (s .mode)) first (byte 1) in
-          step-on (To (cond (placing (s .mode)) Absolute Increment) (traceBy blanked (cond vector trace.Vector trace.Point)) to)
+          step-on (To (cond (placing (s .mode)) Absolute (Increment (shift .off))) (traceBy blanked (cond vector trace.Vector trace.Point)) (shift .to))
           (traces first (byte 1) (byte 2) (byte 3) (x .beam)) _
-          (rw (here (s .setup .size) (x .address) (omega arith)) (trace-drawn blanked vector (x .beam) to (x .address))) held′ out″ f g
+          (rw (here (s .setup .size) (x .address) (omega arith), off-led (placing (s .mode)) first (byte 1) (byte 2) (byte 3) (x .beam)) (trace-drawn blanked vector (x .beam) shift (x .address)))
+          held′ out″ f g
 
       -- codes
       pub on-codes : (letters : CharacterSize) → Writes (s .mode) letters → (held′ : ℕ) (out″ : List ℕ)
@@ -200,11 +208,11 @@ unfolding fourOf
 vectors-trace a b c d beam = refl
 
 pub steps-point : Traces mode.IncrementalPoint false
-unfolding twoOf
+unfolding twoOf shifted
 steps-point a b c d beam = refl
 
 pub steps-trace : Traces mode.IncrementalVector true
-unfolding twoOf
+unfolding twoOf shifted
 steps-trace a b c d beam = refl
 
 pub basic-writes : Writes mode.Basic Basic

@@ -6,8 +6,9 @@ use mathlib.Core.List.{List}
 use lib.ListN.{length, take}
 use Rattle.ground_look.specs.Look.{placing}
 use Rattle.ground_orders.specs.declared.Mode.{Mode}
-use Rattle.unit_beam.specs.Beam.{placed, stepped, blankedPlace, blankedStep}
+use Rattle.unit_beam.specs.Beam.{placed, shifted, blankedPlace, blankedStep}
 use Rattle.unit_beam.specs.declared.Beam.{Beam}
+use Rattle.unit_beam.specs.declared.Shift.{Shift}
 use Rattle.unit_beam.specs.declared.CharacterSize.{CharacterSize}
 use Rattle.unit_motion.specs.Motion.{traceBy, dataMotion}
 use Rattle.unit_motion.specs.declared.Motion.the-variants.{To, Codes}
@@ -22,22 +23,22 @@ use Rattle.unit_head.specs.declared.State.{State}
 use Rattle.unit_step.specs.Run.{itemsRun, GoesOver}
 use Rattle.unit_ahead.specs.declared.AheadListed.{AheadListed}
 
--- coordinates or increments: where they take the beam, whether they are blanked, and what they draw
-abbrev pub ledTo : Bool → ℕ → ℕ → ℕ → ℕ → Beam → Beam
-ledTo places a b c d beam = cond places (placed a b c d) (stepped beam a b)
+-- coordinates or increments: where they take the beam and whether they left the screen, whether they are blanked, and what they draw
+abbrev pub ledTo : Bool → ℕ → ℕ → ℕ → ℕ → Beam → Shift
+ledTo places a b c d beam = cond places (record { to = placed a b c d; off = false }) (shifted beam a b)
 
 abbrev pub blankedOf : Bool → ℕ → ℕ → Bool
 blankedOf places a b = cond places (blankedPlace a) (blankedStep b)
 
-abbrev pub traceItem : Bool → Beam → Beam → ℕ → Item
-traceItem vector from to at = cond vector (vectorAt from to at) (pointAt to at)
+abbrev pub traceItem : Bool → Beam → Shift → ℕ → Item
+traceItem vector from shift at = cond vector (vectorAt from (shift .to) (shift .off) at) (pointAt (shift .to) (shift .off) at)
 
 -- a mode whose data are such coordinates or increments, and leave points or vectors
 abbrev pub Traces : Mode → Bool → Type 0
 Traces m vector =
     (a b c d : ℕ) (beam : Beam)
     → dataMotion m a b c d beam
-    ≡ To (cond (placing m) Absolute Increment) (traceBy (blankedOf (placing m) a b) (cond vector trace.Vector trace.Point)) (ledTo (placing m) a b c d beam)
+    ≡ To (cond (placing m) Absolute (Increment (ledTo (placing m) a b c d beam .off))) (traceBy (blankedOf (placing m) a b) (cond vector trace.Vector trace.Point)) (ledTo (placing m) a b c d beam .to)
 
 -- a mode whose data are codes of this size
 pub record Writes (m : Mode) (letters : CharacterSize) : Type 0 where

@@ -8,6 +8,7 @@ use ground_orders::Mode;
 use unit_beam as beam;
 use unit_beam::Beam;
 use unit_beam::CharacterSize;
+use unit_beam::Shift;
 use unit_cursor as cursor;
 use unit_cursor::Cursor;
 use unit_drawing as drawing;
@@ -36,12 +37,15 @@ pub struct AheadListed {
     pub held: usize,
 }
 
-// Where coordinates or increments take the beam.
-fn led_to(placing: bool, a: u8, b: u8, c: u8, d: u8, beam: Beam) -> Beam
+// Where coordinates or increments take the beam, and whether they left the screen.
+fn led_to(placing: bool, a: u8, b: u8, c: u8, d: u8, beam: Beam) -> Shift
     ensures { λ r. ⌜ r ≡ ledTo «placing» a b c d beam ⌝ }
 {
     if placing {
-        beam::place(a, b, c, d)
+        Shift {
+            to: beam::place(a, b, c, d),
+            off: false,
+        }
     } else {
         beam::step(beam, a, b)
     }
@@ -63,17 +67,23 @@ fn list_trace(
     vector: bool,
     blanked: bool,
     from: Beam,
-    to: Beam,
+    shift: Shift,
     at: u16,
     held: usize,
     out: &mut [u16],
 ) -> Listing
-    ensures { λ r. ⌜ (r ≡ listing (length (now (out .entry))) held (cond (not blanked) (traceItem vector from to at ∷ []) [])) × (now (out .exit) ≡ listed (now (out .entry)) held (cond (not blanked) (traceItem vector from to at ∷ []) [])) ⌝ }
+    ensures { λ r. ⌜ (r ≡ listing (length (now (out .entry))) held (cond (not blanked) (traceItem vector from shift at ∷ []) [])) × (now (out .exit) ≡ listed (now (out .entry)) held (cond (not blanked) (traceItem vector from shift at ∷ []) [])) ⌝ }
 {
+    let to = shift.to;
     if vector {
-        items::list_where(out, held, !blanked, drawing::vector(from, to, at))
+        items::list_where(
+            out,
+            held,
+            !blanked,
+            drawing::vector(from, to, shift.off, at),
+        )
     } else {
-        items::list_where(out, held, !blanked, drawing::point(to, at))
+        items::list_where(out, held, !blanked, drawing::point(to, shift.off, at))
     }
 }
 
@@ -117,7 +127,7 @@ fn list_traces(
         let x = location::data_of(a);
         let y = location::data_of(b);
         let beam = state.beam;
-        let to = led_to(
+        let shift = led_to(
             placing,
             x,
             y,
@@ -125,8 +135,9 @@ fn list_traces(
             location::data_of(d),
             beam,
         );
+        let to = shift.to;
         let blanked = is_blanked(placing, x, y);
-        let Listing::Held(more) = list_trace(vector, blanked, beam, to, at as u16, n, out) else {
+        let Listing::Held(more) = list_trace(vector, blanked, beam, shift, at as u16, n, out) else {
             break;
         };
         n = more;

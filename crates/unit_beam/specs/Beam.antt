@@ -1,9 +1,11 @@
 -- The beam (01, "Beam"): absolute coordinates, increments, spacings, new line.
 use Prim.Native.Nat.{ℕ, _+_, _-_, _*_, _/_, _%_}
-use mathlib.Core.Bool.{Bool, cond}
+use mathlib.Core.Bool.{Bool, true, cond, _||_}
 use lib.Dec.{eqb, leb, ltb}
 use lib.IntN.{ℤ, pos, negsuc, subℕ, _+ℤ_}
 use Rattle.unit_beam.specs.declared.Beam.{Beam}
+use Rattle.unit_beam.specs.declared.Sum.{Sum}
+use Rattle.unit_beam.specs.declared.Shift.{Shift}
 use Rattle.unit_beam.specs.declared.CharacterSize.{CharacterSize}
 use Rattle.unit_beam.specs.declared.CharacterSize.the-variants.{Basic, Large}
 
@@ -43,6 +45,22 @@ summed c b = cutTen (exactSum c b)
 
 unfoldable pub stepped : Beam → ℕ → ℕ → Beam
 stepped p dx dy = beamAt (summed (p .x) dx) (summed (p .y) dy)
+
+-- "whether the exact sum left 0 to 1,023" (02, C-19)
+abbrev pub offScreen : ℤ → Bool
+offScreen (pos n) = ltb 1023 n
+offScreen (negsuc n) = true
+
+-- ".. in X or Y" (02, C-19)
+unfoldable pub leavesScreen : Beam → ℕ → ℕ → Bool
+leavesScreen p dx dy = offScreen (exactSum (p .x) dx) || offScreen (exactSum (p .y) dy)
+
+-- "The addition of an increment shall also say" so (02, C-19): in one coordinate, and for the beam
+abbrev pub sumOf : ℕ → ℕ → Sum
+sumOf c b = record { cut = summed c b; off = offScreen (exactSum c b) }
+
+unfoldable pub shifted : Beam → ℕ → ℕ → Shift
+shifted p dx dy = record { to = stepped p dx dy; off = leavesScreen p dx dy }
 
 -- bit 7 of the Y byte blanks the beam (000 p.25 and p.26, Figure 10)
 unfoldable pub blankedStep : ℕ → Bool

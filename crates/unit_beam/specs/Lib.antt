@@ -1,3 +1,4 @@
 pub mod Beam
 pub mod Spacings
 pub mod Starred
+pub mod Cases

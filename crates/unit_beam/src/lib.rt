@@ -3,12 +3,24 @@
 ghost use mathlib.Core.Path.{_≡_};
 ghost use Prim.Native.Nat.{_*_, _/_, _<_, _≤_};
 ghost use lib.IntN.{pos, _+ℤ_};
-ghost use Rattle.unit_beam.specs.Beam.{tenBits, absolute, placed, blankedPlace, exactSum, summed, stepped, blankedStep, spaced, across, down, lineBelow, newLine, afterCharacter, highByte, lowByte};
+ghost use Rattle.unit_beam.specs.Beam.{tenBits, absolute, placed, blankedPlace, exactSum, sumOf, shifted, blankedStep, spaced, across, down, lineBelow, newLine, afterCharacter, highByte, lowByte};
 
 // Where the beam stands.
 pub struct Beam {
     pub x: u16,
     pub y: u16,
+}
+
+// A coordinate and an increment added: the ten bits of the sum, and whether the exact sum left 0 to 1,023.
+struct Sum {
+    cut: u16,
+    off: bool,
+}
+
+// The beam moved by increments: where it then stands, and whether an exact sum left the screen.
+pub struct Shift {
+    pub to: Beam,
+    pub off: bool,
 }
 
 // The two sizes of characters.
@@ -54,27 +66,33 @@ pub fn blanked_place(xh: u8) -> bool
     xh / 64 % 2 == 1
 }
 
-// The exact sum of a coordinate and an increment, told as 64 more, so that it is never below 0.
+// The exact sum of a coordinate and an increment, told as 1,024 more, so that it is never below 0.
 fn exact_sum(c: u16, b: u8) -> u16
-    ensures { λ r. ⌜ (pos r ≡ exactSum c b +ℤ pos 64) × (r < 1151) ⌝ }
+    ensures { λ r. ⌜ pos r ≡ exactSum c b +ℤ pos 1024 ⌝ }
 {
-    ten_bits(c) + (b as u16 / 2 + 64) % 128
+    ten_bits(c) + (b as u16 / 2 + 64) % 128 + 960
 }
 
-// A coordinate moved by an increment: the ten bits of the exact sum.
-fn sum_of(c: u16, b: u8) -> u16
-    ensures { λ r. ⌜ r ≡ summed c b ⌝ }
+// A coordinate and an increment added.
+fn sum_of(c: u16, b: u8) -> Sum
+    ensures { λ r. ⌜ r ≡ sumOf c b ⌝ }
 {
-    (exact_sum(c, b) + 960) % 1024
+    let sum = exact_sum(c, b);
+    Sum {
+        cut: sum % 1024,
+        off: sum / 1024 != 1,
+    }
 }
 
 // The beam moved by the increments of two bytes.
-pub fn step(beam: Beam, dx: u8, dy: u8) -> Beam
-    ensures { λ r. ⌜ r ≡ stepped beam dx dy ⌝ }
+pub fn step(beam: Beam, dx: u8, dy: u8) -> Shift
+    ensures { λ r. ⌜ r ≡ shifted beam dx dy ⌝ }
 {
-    Beam {
-        x: sum_of(beam.x, dx),
-        y: sum_of(beam.y, dy),
+    let x = sum_of(beam.x, dx);
+    let y = sum_of(beam.y, dy);
+    Shift {
+        to: Beam { x: x.cut, y: y.cut },
+        off: x.off | y.off,
     }
 }
 

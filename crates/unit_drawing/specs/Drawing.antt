@@ -11,6 +11,7 @@ use Rattle.ground_setup.specs.Setup.{wrapOf, aheadOf}
 use Rattle.unit_items.specs.declared.Item.{Item}
 use Rattle.unit_items.specs.declared.Item.the-variants.{Point, Vector, Character, Cursor}
 use Rattle.unit_motion.specs.Codes.{draws, afterCode}
+use Rattle.unit_motion.specs.Motion.{offOf}
 use Rattle.unit_motion.specs.declared.Trace.{Trace}
 use Rattle.unit_motion.specs.declared.Trace.the-variants as trace
 use Rattle.unit_motion.specs.declared.Motion.{Motion}
@@ -27,11 +28,11 @@ abbrev pub stroke : Item → Beam → Stroke
 stroke i b = record { item = i; end = b }
 
 -- the items by their places; "From equals to except for vectors"
-abbrev pub pointAt : Beam → ℕ → Item
-pointAt to at = Point (tenBits (to .x)) (tenBits (to .y)) at
+abbrev pub pointAt : Beam → Bool → ℕ → Item
+pointAt to off at = Point (tenBits (to .x)) (tenBits (to .y)) off at
 
-abbrev pub vectorAt : Beam → Beam → ℕ → Item
-vectorAt from to at = Vector (tenBits (from .x)) (tenBits (from .y)) (tenBits (to .x)) (tenBits (to .y)) at
+abbrev pub vectorAt : Beam → Beam → Bool → ℕ → Item
+vectorAt from to off at = Vector (tenBits (from .x)) (tenBits (from .y)) (tenBits (to .x)) (tenBits (to .y)) off at
 
 abbrev pub characterAt : CharacterSize → ℕ → Beam → ℕ → Item
 characterAt size code beam at = Character size (tenBits (beam .x)) (tenBits (beam .y)) code at
@@ -40,11 +41,12 @@ characterAt size code beam at = Character size (tenBits (beam .x)) (tenBits (bea
 abbrev pub cursorAt : CharacterSize → ℕ → Beam → ℕ → Item
 cursorAt size code beam at = Cursor size (tenBits (beam .x)) (tenBits (beam .y)) code at
 
--- what coordinates draw: nothing, a point, or a vector from where the beam stood, also where it has no length
-abbrev pub traceStrokes : Trace → Beam → Beam → ℕ → List Stroke
-traceStrokes trace.Blanked beam to at = []
-traceStrokes trace.Point beam to at = stroke (pointAt to at) to ∷ []
-traceStrokes trace.Vector beam to at = stroke (vectorAt beam to at) to ∷ []
+-- what coordinates draw: nothing, a point, or a vector from where the beam stood, also where it has no length; "A point or vector drawn by such
+-- a step", which left the screen, tells it (02, C-19)
+abbrev pub traceStrokes : Trace → Beam → Beam → Bool → ℕ → List Stroke
+traceStrokes trace.Blanked beam to off at = []
+traceStrokes trace.Point beam to off at = stroke (pointAt to off at) to ∷ []
+traceStrokes trace.Vector beam to off at = stroke (vectorAt beam to off at) to ∷ []
 
 -- a cursor "on null and new line .. is drawn only if 000 or 001 says so": on null it is not displayed (001 4-8), on new line no book shows one
 unfoldable pub showsCursor : ℕ → Bool
@@ -68,25 +70,25 @@ codesStrokes size a b c0 c1 beam at next =
 -- what a step draws, in order: its motion, where the beam stood, the cursor bits of A and A+1, the buffer's size and A
 unfoldable pub strokesOf : Motion → Beam → Bool → Bool → Size → ℕ → List Stroke
 strokesOf Still beam c0 c1 size at = []
-strokesOf (To k t to) beam c0 c1 size at = traceStrokes t beam to (wrapOf size at)
+strokesOf (To k t to) beam c0 c1 size at = traceStrokes t beam to (offOf k) (wrapOf size at)
 strokesOf (Codes s a b) beam c0 c1 size at = codesStrokes s a b c0 c1 beam (wrapOf size at) (aheadOf size at 1)
 
 -- what is drawn first, by the coordinates or by the code at A
 unfoldable pub firstStrokes : Motion → Beam → Bool → Size → ℕ → List Stroke
 firstStrokes Still beam c0 size at = []
-firstStrokes (To k t to) beam c0 size at = traceStrokes t beam to (wrapOf size at)
+firstStrokes (To k t to) beam c0 size at = traceStrokes t beam to (offOf k) (wrapOf size at)
 firstStrokes (Codes s a b) beam c0 size at = codeStrokes s a c0 beam (wrapOf size at)
 
 -- "the first or second point, vector or character drawn in that step (cursors not counted ..)"
 abbrev pub counts : Item → Bool
-counts (Point x y at) = true
-counts (Vector x₀ y₀ x y at) = true
+counts (Point x y off at) = true
+counts (Vector x₀ y₀ x y off at) = true
 counts (Character size x y code at) = true
 counts (Cursor size x y code at) = false
 
 abbrev pub itemAddress : Item → ℕ
-itemAddress (Point x y at) = at
-itemAddress (Vector x₀ y₀ x y at) = at
+itemAddress (Point x y off at) = at
+itemAddress (Vector x₀ y₀ x y off at) = at
 itemAddress (Character size x y code at) = at
 itemAddress (Cursor size x y code at) = at
 

@@ -5,7 +5,7 @@ use mathlib.Core.Bool.{Bool, true, false}
 use mathlib.Core.List.{List, [], _∷_}
 use Rattle.unit_beam.specs.declared.Beam.{Beam}
 use Rattle.unit_beam.specs.declared.CharacterSize.the-variants as size
-use Rattle.unit_beam.specs.Beam.{beamAt, placed, blankedPlace, increment, exactSum, summed, stepped, blankedStep, lineBelow, newLine, afterCharacter}
+use Rattle.unit_beam.specs.Beam.{beamAt, placed, blankedPlace, increment, exactSum, summed, stepped, leavesScreen, blankedStep, lineBelow, newLine, afterCharacter}
 use Rattle.ground_setup.specs.declared.Size.the-variants.{K4}
 use Rattle.ground_orders.specs.declared.Mode.{Mode}
 use Rattle.ground_orders.specs.declared.Mode.the-variants as mode
@@ -40,16 +40,19 @@ abbrev codes : ℕ → ℕ → Look
 codes a b = look.Two a b 12
 
 pub record Worked : Type 0 where
-  pub point : items shown mode.Point (beamAt 3 5) false false 0 ≡ Point 128 256 10 ∷ []
+  pub point : items shown mode.Point (beamAt 3 5) false false 0 ≡ Point 128 256 false 10 ∷ []
   pub point-blanked : items hidden mode.Point (beamAt 3 5) false false 0 ≡ []
   pub blanked-moves : leaves hidden mode.Point (beamAt 3 5) ≡ beamAt 128 256
-  pub vector : items shown mode.Vector (beamAt 3 5) false false 0 ≡ Vector 3 5 128 256 10 ∷ []
+  pub vector : items shown mode.Vector (beamAt 3 5) false false 0 ≡ Vector 3 5 128 256 false 10 ∷ []
   pub vector-blanked : items hidden mode.Vector (beamAt 3 5) false false 0 ≡ []
-  pub no-length : items shown mode.Vector (beamAt 128 256) false false 0 ≡ Vector 128 256 128 256 10 ∷ []
-  pub increments : items (codes 0x7F 0x80) mode.IncrementalVector (beamAt 1000 10) false false 0 ≡ Vector 1000 10 39 970 10 ∷ []
+  pub no-length : items shown mode.Vector (beamAt 128 256) false false 0 ≡ Vector 128 256 128 256 false 10 ∷ []
+  pub increments : items (codes 0x7F 0x80) mode.IncrementalVector (beamAt 1000 10) false false 0 ≡ Vector 1000 10 39 970 true 10 ∷ []
+  pub increments-inside : items (codes 0x7F 0x80) mode.IncrementalPoint (beamAt 39 970) false false 0 ≡ Point 102 906 false 10 ∷ []
+  pub off-above : items (codes 0x01 0x7E) mode.IncrementalPoint (beamAt 39 970) false false 0 ≡ Point 39 9 true 10 ∷ []
   pub increments-blanked : items (codes 0x7F 0x81) mode.IncrementalPoint (beamAt 1000 10) false false 0 ≡ []
   pub idle : items (codes 0xC1 0xC2) mode.Idle (beamAt 3 5) true true 0 ≡ []
   pub characters : items (codes 0xC1 0xC2) mode.Large (beamAt 0 1023) false false 0 ≡ Character size.Large 0 1023 0xC1 10 ∷ Character size.Large 21 1023 0xC2 11 ∷ []
+  pub character-at-the-edge : items (codes 0xC1 0x40) mode.Basic (beamAt 1020 500) false false 0 ≡ Character size.Basic 1020 500 0xC1 10 ∷ []
   pub cursor : items (codes 0xC1 0xC2) mode.Basic (beamAt 0 1023) true false 0 ≡ Character size.Basic 0 1023 0xC1 10 ∷ Cursor size.Basic 0 1023 0xC1 10 ∷ Character size.Basic 14 1023 0xC2 11 ∷ []
   pub cursor-on-blank : items (codes 0x40 0xC2) mode.Basic (beamAt 0 1023) true false 0 ≡ Cursor size.Basic 0 1023 0x40 10 ∷ Character size.Basic 14 1023 0xC2 11 ∷ []
   pub cursor-on-null : items (codes 0x00 0xC2) mode.Basic (beamAt 0 1023) true false 0 ≡ Character size.Basic 0 1023 0xC2 11 ∷ []
@@ -65,7 +68,7 @@ pub record Worked : Type 0 where
   pub vector-struck : sighted shown mode.Vector (beamAt 3 5) 1 ≡ At 10 (beamAt 128 256)
 
 pub worked : Worked
-unfolding placed blankedPlace increment exactSum summed stepped blankedStep lineBelow newLine afterCharacter draws afterCode twoOf fourOf motionOf beamAfter showsCursor hasCursor codeStrokes codesStrokes strokesOf upto hitIn
+unfolding placed blankedPlace increment exactSum summed stepped leavesScreen blankedStep lineBelow newLine afterCharacter draws afterCode twoOf fourOf motionOf beamAfter showsCursor hasCursor codeStrokes codesStrokes strokesOf upto hitIn
 worked =
     record {
       point = refl;
@@ -75,9 +78,12 @@ worked =
       vector-blanked = refl;
       no-length = refl;
       increments = refl;
+      increments-inside = refl;
+      off-above = refl;
       increments-blanked = refl;
       idle = refl;
       characters = refl;
+      character-at-the-edge = refl;
       cursor = refl;
       cursor-on-blank = refl;
       cursor-on-null = refl;

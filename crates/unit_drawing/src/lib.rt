@@ -11,7 +11,7 @@ use unit_motion as motion;
 use unit_motion::Motion;
 use unit_motion::Trace;
 ghost use mathlib.Core.Path.{_≡_};
-ghost use mathlib.Core.Bool.{cond, false};
+ghost use mathlib.Core.Bool.{Bool, cond, false};
 ghost use Prim.Native.Nat.{_-_};
 ghost use lib.Dec.{eqb};
 ghost use Rattle.unit_items.specs.Items.{itemsIn, itemsOf};
@@ -66,9 +66,9 @@ fn hit_only(sight: u8, at: u16, end: Beam) -> Hit
     }
 }
 
-// The hit on what coordinates leave.
+// The hit on what coordinates leave, whether they left the screen or not.
 fn hit_trace(trace: Trace, beam: Beam, to: Beam, at: u16, sight: u8) -> Hit
-    ensures { λ r. ⌜ r ≡ hitIn sight (traceStrokes trace beam to at) ⌝ }
+    ensures { λ r. ⌜ ((off : Bool) → r ≡ hitIn sight (traceStrokes trace beam to off at)) ⌝ }
 {
     match trace {
         Trace::Blanked => Hit::Missed,
@@ -123,38 +123,40 @@ pub fn hit_of(motion: Motion, beam: Beam, size: Size, at: usize, sight: u8) -> H
     }
 }
 
-// The point at a place.
-pub fn point(to: Beam, at: u16) -> Item
-    ensures { λ r. ⌜ r ≡ pointAt to at ⌝ }
+// The point at a place, and whether the screen was left on the way.
+pub fn point(to: Beam, off: bool, at: u16) -> Item
+    ensures { λ r. ⌜ r ≡ pointAt to off at ⌝ }
 {
     Item::Point {
         x: to.x % 1024,
         y: to.y % 1024,
+        off: off,
         at: at,
     }
 }
 
-// The vector from a place to another.
-pub fn vector(from: Beam, to: Beam, at: u16) -> Item
-    ensures { λ r. ⌜ r ≡ vectorAt from to at ⌝ }
+// The vector from a place to another, and whether the screen was left on the way.
+pub fn vector(from: Beam, to: Beam, off: bool, at: u16) -> Item
+    ensures { λ r. ⌜ r ≡ vectorAt from to off at ⌝ }
 {
     Item::Vector {
         from_x: from.x % 1024,
         from_y: from.y % 1024,
         x: to.x % 1024,
         y: to.y % 1024,
+        off: off,
         at: at,
     }
 }
 
 // What coordinates draw.
-fn trace_part(trace: Trace, beam: Beam, to: Beam, at: u16, sight: u8) -> Part
-    ensures { λ r. ⌜ itemsIn r ≡ upto sight (traceStrokes trace beam to at) ⌝ }
+fn trace_part(trace: Trace, beam: Beam, to: Beam, off: bool, at: u16, sight: u8) -> Part
+    ensures { λ r. ⌜ itemsIn r ≡ upto sight (traceStrokes trace beam to off at) ⌝ }
 {
     match trace {
         Trace::Blanked => Part::Nothing,
-        Trace::Point => Part::One(point(to, at)),
-        Trace::Vector => Part::One(vector(beam, to, at)),
+        Trace::Point => Part::One(point(to, off, at)),
+        Trace::Vector => Part::One(vector(beam, to, off, at)),
     }
 }
 
@@ -269,8 +271,15 @@ pub fn drawn_of(
             first: Part::Nothing,
             second: Part::Nothing,
         },
-        Motion::To(_, trace, to) => Drawn {
-            first: trace_part(trace, beam, to, address(size, at), sight),
+        Motion::To(moved, trace, to) => Drawn {
+            first: trace_part(
+                trace,
+                beam,
+                to,
+                motion::is_off(moved),
+                address(size, at),
+                sight,
+            ),
             second: Part::Nothing,
         },
         Motion::Codes(letters, a, b) => codes_drawn(

@@ -27,8 +27,8 @@ sets-append [] ys l i j p = let q : j ≡ i = omega arith in rw q
 sets-append (x ∷ xs) ys l i j p = sets-append xs ys (set l i x) (suc i) j (omega arith)
 
 pub eight-numbers : (i : Item) → length (numbersOf i) ≡ 8
-eight-numbers (Point x y at) = refl
-eight-numbers (Vector x₀ y₀ x y at) = refl
+eight-numbers (Point x y off at) = refl
+eight-numbers (Vector x₀ y₀ x y off at) = refl
 eight-numbers (Character size x y code at) = refl
 eight-numbers (Cursor size x y code at) = refl
 

@@ -1,6 +1,6 @@
 -- Drawn items (01, "Drawn item") and the list that takes them.
 use Prim.Native.Nat.{ℕ, _+_, _-_, _*_, _/_}
-use mathlib.Core.Bool.{Bool, cond}
+use mathlib.Core.Bool.{Bool, true, false, cond}
 use mathlib.Core.List.{List, [], _∷_, _++_}
 use lib.ListN.{length}
 use lib.Seq.{sets}
@@ -20,11 +20,16 @@ abbrev pub sizeNumber : CharacterSize → ℕ
 sizeNumber Basic = 1
 sizeNumber Large = 2
 
+-- "A point or vector drawn by such a step carries 1 in its code field, otherwise 0." (02, C-19)
+abbrev pub offNumber : Bool → ℕ
+offNumber true = 1
+offNumber false = 0
+
 -- "eight 16-bit numbers: kind (1 point, 2 vector, 3 character, 4 cursor), from X, from Y, to X, to Y, code, size .., address of its
--- first byte. From equals to except for vectors; code and size are 0 for 1 and 2."
+-- first byte. From equals to except for vectors; code and size are 0 for 1 and 2", and since C-19 their code tells whether the screen was left
 abbrev pub numbersOf : Item → List ℕ
-numbersOf (Point x y at) = 1 ∷ x ∷ y ∷ x ∷ y ∷ 0 ∷ 0 ∷ at ∷ []
-numbersOf (Vector x₀ y₀ x y at) = 2 ∷ x₀ ∷ y₀ ∷ x ∷ y ∷ 0 ∷ 0 ∷ at ∷ []
+numbersOf (Point x y off at) = 1 ∷ x ∷ y ∷ x ∷ y ∷ offNumber off ∷ 0 ∷ at ∷ []
+numbersOf (Vector x₀ y₀ x y off at) = 2 ∷ x₀ ∷ y₀ ∷ x ∷ y ∷ offNumber off ∷ 0 ∷ at ∷ []
 numbersOf (Character size x y code at) = 3 ∷ x ∷ y ∷ x ∷ y ∷ code ∷ sizeNumber size ∷ at ∷ []
 numbersOf (Cursor size x y code at) = 4 ∷ x ∷ y ∷ x ∷ y ∷ code ∷ sizeNumber size ∷ at ∷ []
 

@@ -7,13 +7,14 @@ ghost use Prim.Native.Nat.{_+_, _-_, _*_, _≤_};
 ghost use lib.ListN.{length};
 ghost use lib.Seq.{sets};
 ghost use lib.Dec.{leb};
-ghost use Rattle.unit_items.specs.Items.{sizeNumber, numbersOf, itemsIn, itemsOf, numbers, listed, listing};
+ghost use Rattle.unit_items.specs.Items.{sizeNumber, offNumber, numbersOf, itemsIn, itemsOf, numbers, listed, listing};
 
-// One thing drawn, with the address of its first byte.
+// One thing drawn, with the address of its first byte; of a point and a vector, whether the step that drew it left the screen.
 pub enum Item {
     Point {
         x: u16,
         y: u16,
+        off: bool,
         at: u16,
     },
     Vector {
@@ -21,6 +22,7 @@ pub enum Item {
         from_y: u16,
         x: u16,
         y: u16,
+        off: bool,
         at: u16,
     },
     Character {
@@ -68,6 +70,13 @@ fn size_number(size: CharacterSize) -> u16
     }
 }
 
+// The number that tells whether a step left the screen.
+fn off_number(off: bool) -> u16
+    ensures { λ r. ⌜ r ≡ offNumber off ⌝ }
+{
+    if off { 1 } else { 0 }
+}
+
 // Eight numbers are put in their place.
 fn put8(out: &mut [u16], at: usize, a: u16, b: u16, c: u16, d: u16, e: u16, f: u16, g: u16, h: u16)
     requires { ⌜ at + 8 ≤ length (now out) ⌝ }
@@ -89,14 +98,15 @@ fn put_item(out: &mut [u16], at: usize, item: Item)
     ensures { λ r. ⌜ now (out .exit) ≡ sets (now (out .entry)) at (numbersOf item) ⌝ }
 {
     match item {
-        Item::Point { x, y, at: p } => put8(out, at, 1, x, y, x, y, 0, 0, p),
+        Item::Point { x, y, off, at: p } => put8(out, at, 1, x, y, x, y, off_number(off), 0, p),
         Item::Vector {
             from_x,
             from_y,
             x,
             y,
+            off,
             at: p,
-        } => put8(out, at, 2, from_x, from_y, x, y, 0, 0, p),
+        } => put8(out, at, 2, from_x, from_y, x, y, off_number(off), 0, p),
         Item::Character {
             x,
             y,

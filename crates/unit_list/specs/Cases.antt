@@ -6,10 +6,10 @@ use mathlib.Core.Bool.{true, false}
 use mathlib.Core.List.{List, [], _∷_, _++_, map}
 use lib.Count.{ones, onesIn}
 use Rattle.ground_orders.specs.Orders.{table, findIn, orderOf}
-use Rattle.ground_orders.specs.declared.Mode.the-variants.{Idle, Point, Vector, Basic}
+use Rattle.ground_orders.specs.declared.Mode.the-variants.{Idle, Point, Vector, IncrementalPoint, IncrementalVector, Basic}
 use Rattle.ground_groups.specs.Groups.{wordsGroup}
 use Rattle.ground_look.specs.Look.{lookOf}
-use Rattle.unit_beam.specs.Beam.{placed, blankedPlace, lineBelow, newLine, afterCharacter}
+use Rattle.unit_beam.specs.Beam.{placed, blankedPlace, increment, exactSum, summed, stepped, leavesScreen, blankedStep, lineBelow, newLine, afterCharacter}
 use Rattle.unit_pen.specs.Pen.{fresh, detects, seenOf}
 use Rattle.unit_items.specs.Items.{listing, listed}
 use Rattle.unit_motion.specs.Codes.{draws, afterCode}
@@ -17,7 +17,7 @@ use Rattle.unit_motion.specs.Motion.{twoOf, fourOf, motionOf}
 use Rattle.unit_drawing.specs.Drawing.{showsCursor, hasCursor, codeStrokes, codesStrokes, strokesOf, upto}
 use Rattle.unit_head.specs.Head.{DisplayUnit, noSense}
 use Rattle.unit_step.specs.Step.{itemsDrawn}
-use Rattle.unit_step.specs.Samples.{shows, ending, unknown, badParity, cutShort, oneTwo, letters, pointed, armed, noSwitch, nines}
+use Rattle.unit_step.specs.Samples.{shows, ending, unknown, badParity, cutShort, oneTwo, twoSteps, letters, pointed, armed, noSwitch, nines}
 use Rattle.unit_list.specs.List.{nextItems, ListValues, ListEnd, unitList, unitMoves}
 use Rattle.unit_list.specs.declared.Moves.the-variants as moves
 
@@ -49,6 +49,9 @@ listCases =
     listCase (shows oneTwo 0 0 Point true 3 5 fresh 0 noSense) 0 0 (nines 9) (ListValues.holds 1) (1 ∷ 1 ∷ 2 ∷ 1 ∷ 2 ∷ 0 ∷ 0 ∷ 0 ∷ 9 ∷ [])
     ∷ listCase (shows oneTwo 0 0 Vector true 3 5 fresh 0 noSense) 0 0 (nines 8) (ListValues.holds 1) (2 ∷ 3 ∷ 5 ∷ 1 ∷ 2 ∷ 0 ∷ 0 ∷ 0 ∷ [])
     ∷ listCase (shows pointed 1 0 Basic true 3 5 fresh 0 noSense) 0 0 (nines 24) (ListValues.holds 3) (first ++ under ++ second)
+    -- an increment that left the screen, in X alone; from the same place a step that stays on it
+    ∷ listCase (shows twoSteps 0 0 IncrementalVector true 1000 5 fresh 0 noSense) 0 0 (nines 8) (ListValues.holds 1) (2 ∷ 1000 ∷ 5 ∷ 39 ∷ 5 ∷ 1 ∷ 0 ∷ 0 ∷ [])
+    ∷ listCase (shows twoSteps 0 2 IncrementalPoint true 1000 5 fresh 0 noSense) 0 0 (nines 8) (ListValues.holds 1) (1 ∷ 1001 ∷ 5 ∷ 1001 ∷ 5 ∷ 0 ∷ 0 ∷ 2 ∷ [])
     -- behind the items that the list holds
     ∷ listCase (shows oneTwo 0 0 Point true 3 5 fresh 0 noSense) 0 1 (nines 16) (ListValues.holds 2) (nines 8 ++ (1 ∷ 1 ∷ 2 ∷ 1 ∷ 2 ∷ 0 ∷ 0 ∷ 0 ∷ []))
     -- "9 items don't fit": one number too few; none of them is put. Told to hold more than there is room for, the list has none left
@@ -73,19 +76,21 @@ listCases =
 
 -- each case of the table holds
 pub list-cases : map (λ (c : ListCase). unitList (c .before) (c .sight) (c .held) (c .lent)) listCases ≡ map (λ (c : ListCase). c .after) listCases
-unfolding unitList nextItems itemsDrawn lookOf wordsGroup orderOf findIn table listing listed motionOf twoOf fourOf draws afterCode strokesOf codesStrokes codeStrokes showsCursor hasCursor upto placed blankedPlace lineBelow newLine afterCharacter detects seenOf ones onesIn
+unfolding unitList nextItems itemsDrawn lookOf wordsGroup orderOf findIn table listing listed motionOf twoOf fourOf draws afterCode strokesOf codesStrokes codeStrokes showsCursor hasCursor upto placed blankedPlace increment exactSum summed stepped leavesScreen blankedStep lineBelow newLine afterCharacter detects seenOf ones onesIn
 list-cases = refl
 
--- what the next step moves: an absolute coordinate, codes, and nothing where it is an order, where it is not done and where there is none
+-- what the next step moves: an absolute coordinate, an increment, whether it leaves the screen or not, codes, and nothing where it is an order, where it is not done and where there is none
 pub moves-cases :
     map unitMoves
     (shows oneTwo 0 0 Vector true 3 5 fresh 0 noSense
+    ∷ shows twoSteps 0 0 IncrementalVector true 1000 5 fresh 0 noSense
+    ∷ shows twoSteps 0 0 IncrementalPoint true 3 5 fresh 0 noSense
     ∷ shows letters 0 0 Basic true 3 5 fresh 0 noSense
     ∷ shows letters 0 0 Idle true 3 5 fresh 0 noSense
     ∷ shows ending 0 0 Vector true 3 5 fresh 0 noSense
     ∷ shows unknown 0 0 Vector true 3 5 fresh 0 noSense
     ∷ shows oneTwo 0 0 Vector false 3 5 fresh 0 noSense
     ∷ [])
-    ≡ moves.Absolute ∷ moves.Codes ∷ moves.Nothing ∷ moves.Nothing ∷ moves.Nothing ∷ moves.Nothing ∷ []
+    ≡ moves.Absolute ∷ moves.Increment ∷ moves.Increment ∷ moves.Codes ∷ moves.Nothing ∷ moves.Nothing ∷ moves.Nothing ∷ moves.Nothing ∷ []
 unfolding unitMoves lookOf wordsGroup orderOf findIn table motionOf twoOf fourOf ones onesIn
 moves-cases = refl

@@ -56,7 +56,7 @@ unitList u sight held list =
 -- what a motion moves the beam by
 abbrev pub movesTo : Moved → Moves
 movesTo moved.Absolute = moves.Absolute
-movesTo moved.Increment = moves.Increment
+movesTo (moved.Increment off) = moves.Increment
 
 abbrev pub movesBy : Motion → Moves
 movesBy motion.Still = moves.Nothing

@@ -87,7 +87,7 @@ fn moves_to(moved: Moved) -> Moves
 {
     match moved {
         Moved::Absolute => Moves::Absolute,
-        Moved::Increment => Moves::Increment,
+        Moved::Increment(_) => Moves::Increment,
     }
 }
 

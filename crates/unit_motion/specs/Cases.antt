@@ -3,9 +3,10 @@ use mathlib.Core.Path.{_≡_, refl}
 use mathlib.Core.Bool.{true, false}
 use Rattle.unit_beam.specs.declared.Beam.{Beam}
 use Rattle.unit_beam.specs.declared.CharacterSize.{CharacterSize}
-use Rattle.unit_beam.specs.Beam.{newLine, afterCharacter}
+use Rattle.unit_beam.specs.Beam.{beamAt, increment, exactSum, summed, stepped, leavesScreen, blankedStep, newLine, afterCharacter}
+use Rattle.ground_orders.specs.declared.Mode.the-variants as mode
 use Rattle.unit_motion.specs.Codes.{draws, afterCode}
-use Rattle.unit_motion.specs.Motion.{beamAfter}
+use Rattle.unit_motion.specs.Motion.{twoOf, offOf, beamAfter}
 use Rattle.unit_motion.specs.declared.Trace.the-variants as trace
 use Rattle.unit_motion.specs.declared.Moved.the-variants as moved
 use Rattle.unit_motion.specs.declared.Motion.the-variants.{To}
@@ -23,11 +24,15 @@ module _ (size : CharacterSize) (beam to : Beam) where
     pub new-line-falls : afterCode size 0x15 beam ≡ newLine size beam
     pub blank-spaces : afterCode size 0x40 beam ≡ afterCharacter size beam
     pub letter-spaces : afterCode size 0xC1 beam ≡ afterCharacter size beam
+    -- "whether the exact sum left 0 to 1,023" (02, C-19): 1,000 and 63, and from there; an absolute coordinate lies on the screen
+    pub leaves : twoOf mode.IncrementalVector 0x7F 0x00 (beamAt 1000 5) ≡ To (moved.Increment true) trace.Vector (beamAt 39 5)
+    pub stays : twoOf mode.IncrementalPoint 0x7F 0x00 (beamAt 39 5) ≡ To (moved.Increment false) trace.Point (beamAt 102 5)
+    pub coordinate-stays : offOf moved.Absolute ≡ false
     -- "Blanked coordinates move the beam"
     pub blanked-moves : beamAfter (To moved.Absolute trace.Blanked to) beam ≡ to
 
   pub motion-cases : MotionCases
-  unfolding draws afterCode beamAfter
+  unfolding draws afterCode beamAfter twoOf increment exactSum summed stepped leavesScreen blankedStep
   motion-cases =
       record {
         null-unseen = refl;
@@ -39,5 +44,8 @@ module _ (size : CharacterSize) (beam to : Beam) where
         new-line-falls = refl;
         blank-spaces = refl;
         letter-spaces = refl;
+        leaves = refl;
+        stays = refl;
+        coordinate-stays = refl;
         blanked-moves = refl;
       }

@@ -1,9 +1,9 @@
 -- What a step does with the beam: what its look and its mode come to, and where the beam stands afterwards.
 use Prim.Native.Nat.{ℕ}
-use mathlib.Core.Bool.{Bool, cond}
+use mathlib.Core.Bool.{Bool, false, cond}
 use Rattle.unit_beam.specs.declared.Beam.{Beam}
 use Rattle.unit_beam.specs.declared.CharacterSize.the-variants as size
-use Rattle.unit_beam.specs.Beam.{placed, blankedPlace, stepped, blankedStep}
+use Rattle.unit_beam.specs.Beam.{placed, blankedPlace, stepped, leavesScreen, blankedStep}
 use Rattle.ground_orders.specs.declared.Mode.{Mode}
 use Rattle.ground_orders.specs.declared.Mode.the-variants as mode
 use Rattle.ground_look.specs.Look.{placing}
@@ -12,6 +12,7 @@ use Rattle.ground_look.specs.declared.Look.the-variants as look
 use Rattle.unit_motion.specs.Codes.{afterCode}
 use Rattle.unit_motion.specs.declared.Trace.{Trace}
 use Rattle.unit_motion.specs.declared.Trace.the-variants as trace
+use Rattle.unit_motion.specs.declared.Moved.{Moved}
 use Rattle.unit_motion.specs.declared.Moved.the-variants as moved
 use Rattle.unit_motion.specs.declared.Motion.{Motion}
 use Rattle.unit_motion.specs.declared.Motion.the-variants.{Still, To, Codes}
@@ -20,13 +21,17 @@ use Rattle.unit_motion.specs.declared.Motion.the-variants.{Still, To, Co
 abbrev pub traceBy : Bool → Trace → Trace
 traceBy blanked t = cond blanked trace.Blanked t
 
+-- an increment, which tells whether it left the screen (02, C-19)
+abbrev pub byIncrement : Trace → ℕ → ℕ → Beam → Motion
+byIncrement t a b beam = To (moved.Increment (leavesScreen beam a b)) (traceBy (blankedStep b) t) (stepped beam a b)
+
 -- the two bytes of incremental and character modes: an increment, or codes; in idle mode they are passed over
 unfoldable pub twoOf : Mode → ℕ → ℕ → Beam → Motion
 twoOf mode.Idle a b beam = Still
 twoOf mode.Point a b beam = Still
 twoOf mode.Vector a b beam = Still
-twoOf mode.IncrementalPoint a b beam = To moved.Increment (traceBy (blankedStep b) trace.Point) (stepped beam a b)
-twoOf mode.IncrementalVector a b beam = To moved.Increment (traceBy (blankedStep b) trace.Vector) (stepped beam a b)
+twoOf mode.IncrementalPoint a b beam = byIncrement trace.Point a b beam
+twoOf mode.IncrementalVector a b beam = byIncrement trace.Vector a b beam
 twoOf mode.Basic a b beam = Codes size.Basic a b
 twoOf mode.Large a b beam = Codes size.Large a b
 
@@ -53,6 +58,11 @@ motionOf (look.Jump target) m beam = Still
 motionOf (look.Either target next) m beam = Still
 motionOf (look.Two a b next) m beam = twoOf m a b beam
 motionOf (look.Four a b c d next) m beam = fourOf m a b c d
+
+-- whether the screen was left: an absolute coordinate lies on it
+abbrev pub offOf : Moved → Bool
+offOf moved.Absolute = false
+offOf (moved.Increment off) = off
 
 -- the beam after the step
 unfoldable pub beamAfter : Motion → Beam → Beam

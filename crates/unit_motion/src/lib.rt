@@ -6,8 +6,9 @@ use unit_beam as beam;
 use unit_beam::Beam;
 use unit_beam::CharacterSize;
 ghost use mathlib.Core.Path.{_≡_};
+ghost use Rattle.unit_beam.specs.Beam.{stepped};
 ghost use Rattle.unit_motion.specs.Codes.{draws, afterCode};
-ghost use Rattle.unit_motion.specs.Motion.{traceBy, twoOf, fourOf, motionOf, beamAfter, dataMotion};
+ghost use Rattle.unit_motion.specs.Motion.{traceBy, byIncrement, twoOf, fourOf, motionOf, offOf, beamAfter, dataMotion};
 
 // What coordinates leave on the screen.
 pub enum Trace {
@@ -20,8 +21,8 @@ pub enum Trace {
 pub enum Moved {
     // An absolute coordinate.
     Absolute,
-    // An increment.
-    Increment,
+    // An increment, and whether it left the screen.
+    Increment(bool),
 }
 
 // What a step does with the beam.
@@ -62,6 +63,19 @@ fn trace_by(blanked: bool, trace: Trace) -> Trace
     if blanked { Trace::Blanked } else { trace }
 }
 
+// The motion of an increment.
+fn by_increment(trace: Trace, a: u8, b: u8, beam: Beam) -> Motion
+    ensures { λ r. ⌜ r ≡ byIncrement trace a b beam ⌝ }
+{
+    let shift = beam::step(beam, a, b);
+    let to = shift.to;
+    Motion::To(
+        Moved::Increment(shift.off),
+        trace_by(beam::blanked_step(b), trace),
+        to,
+    )
+}
+
 // The motion of two bytes.
 fn two(mode: Mode, a: u8, b: u8, beam: Beam) -> Motion
     ensures { λ r. ⌜ r ≡ twoOf mode a b beam ⌝ }
@@ -70,16 +84,8 @@ fn two(mode: Mode, a: u8, b: u8, beam: Beam) -> Motion
         Mode::Idle => Motion::Still,
         Mode::Point => Motion::Still,
         Mode::Vector => Motion::Still,
-        Mode::IncrementalPoint => Motion::To(
-            Moved::Increment,
-            trace_by(beam::blanked_step(b), Trace::Point),
-            beam::step(beam, a, b),
-        ),
-        Mode::IncrementalVector => Motion::To(
-            Moved::Increment,
-            trace_by(beam::blanked_step(b), Trace::Vector),
-            beam::step(beam, a, b),
-        ),
+        Mode::IncrementalPoint => by_increment(Trace::Point, a, b, beam),
+        Mode::IncrementalVector => by_increment(Trace::Vector, a, b, beam),
         Mode::Basic => Motion::Codes(CharacterSize::Basic, a, b),
         Mode::Large => Motion::Codes(CharacterSize::Large, a, b),
     }
@@ -127,6 +133,16 @@ pub fn motion_of(look: Look, mode: Mode, beam: Beam) -> Motion
     }
 }
 
+// Whether what moved the beam left the screen.
+pub fn is_off(moved: Moved) -> bool
+    ensures { λ r. ⌜ r ≡ offOf moved ⌝ }
+{
+    match moved {
+        Moved::Absolute => false,
+        Moved::Increment(off) => off,
+    }
+}
+
 // The beam after a step.
 pub fn beam_after(motion: Motion, beam: Beam) -> Beam
     ensures { λ r. ⌜ r ≡ beamAfter motion beam ⌝ }
@@ -145,6 +161,15 @@ pub fn after_codes(size: CharacterSize, a: u8, b: u8, beam: Beam) -> Beam
     after_code(size, b, after_code(size, a, beam))
 }
 
+// The beam after an increment.
+fn stepped_to(beam: Beam, a: u8, b: u8) -> Beam
+    ensures { λ r. ⌜ r ≡ stepped beam a b ⌝ }
+{
+    let shift = beam::step(beam, a, b);
+    let to = shift.to;
+    to
+}
+
 // The beam after a mode's data: the four bytes of point and vector mode, or the first two.
 pub fn moved_by(mode: Mode, a: u8, b: u8, c: u8, d: u8, beam: Beam) -> Beam
     ensures { λ r. ⌜ r ≡ beamAfter (dataMotion mode a b c d beam) beam ⌝ }
@@ -153,8 +178,8 @@ pub fn moved_by(mode: Mode, a: u8, b: u8, c: u8, d: u8, beam: Beam) -> Beam
         Mode::Idle => beam,
         Mode::Point => beam::place(a, b, c, d),
         Mode::Vector => beam::place(a, b, c, d),
-        Mode::IncrementalPoint => beam::step(beam, a, b),
-        Mode::IncrementalVector => beam::step(beam, a, b),
+        Mode::IncrementalPoint => stepped_to(beam, a, b),
+        Mode::IncrementalVector => stepped_to(beam, a, b),
         Mode::Basic => after_codes(CharacterSize::Basic, a, b, beam),
         Mode::Large => after_codes(CharacterSize::Large, a, b, beam),
     }

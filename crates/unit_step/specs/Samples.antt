@@ -27,7 +27,8 @@ shows words count a m running x y pen status bits =
     })
 
 -- programs from address 0 on: an end order; a code in no row; an end order whose second byte has bad parity; vector mode with 2A where Y was due;
--- the coordinates 1, 2, and behind them 3, 4; two characters, and the same with the cursor on the first
+-- the coordinates 1, 2, and behind them 3, 4; the increments +63, 0, and behind them +1, 0; two characters, and the same with the cursor on the
+-- first
 abbrev pub ending : List ℕ
 ending = 0x042A ∷ 0x0681 ∷ []
 
@@ -45,6 +46,9 @@ oneTwo = 0x0600 ∷ 0x0404 ∷ 0x0600 ∷ 0x0408 ∷ []
 
 abbrev pub twoPoints : List ℕ
 twoPoints = 0x0600 ∷ 0x0404 ∷ 0x0600 ∷ 0x0408 ∷ 0x0600 ∷ 0x060C ∷ 0x0600 ∷ 0x0410 ∷ []
+
+abbrev pub twoSteps : List ℕ
+twoSteps = 0x047F ∷ 0x0600 ∷ 0x0603 ∷ 0x0600 ∷ []
 
 abbrev pub letters : List ℕ
 letters = 0x04C1 ∷ 0x04C2 ∷ []

@@ -15,8 +15,8 @@ slice-aggregate-put-paired-2 c = search needs
 put-paired-requires-2 : tie.Need-put-paired-requires-2
 put-paired-requires-2 c κs = search needs
 
-put-at-requires : tie.Need-put-at-requires
-put-at-requires c κs = search needs
+put-left-requires : tie.Need-put-left-requires
+put-left-requires c κs = search needs
 
 same-length : tie.Need-same-length
 same-length c = search needs
@@ -25,7 +25,7 @@ returns : tie.Need-returns
 returns c =
     let first = c .before .before .before .before .before .before .before .before .before .before .before .put-paired .ensures in
     let second = c .before .before .before .before .before .before .put-paired2 .ensures in
-    behind _ _ _ _ _ _ _ _ (behind _ _ _ _ _ _ _ _ first second) (c .before .before .put-at .ensures)
+    behind _ _ _ _ _ _ _ _ (behind _ _ _ _ _ _ _ _ first second) (c .before .before .put-left .ensures)
 
 pub put-vector-spec : {M : Type 1} → statement M
 put-vector-spec =
@@ -35,6 +35,6 @@ put-vector-spec =
     put-paired-requires
     slice-aggregate-put-paired-2
     put-paired-requires-2
-    put-at-requires
+    put-left-requires
     same-length
     returns)

@@ -9,7 +9,7 @@ step-requires : tie.Need-step-requires
 step-requires c κs = search needs
 
 returns : tie.Need-returns
-returns c = simp (c .before .if1 .taken) (c .place .ensures)
+returns c = simp (c .before .if1 .taken, c .place .ensures)
 
 returns-2 : tie.Need-returns-2
 returns-2 c = simp (c .before .if1 .left) (c .step .ensures)

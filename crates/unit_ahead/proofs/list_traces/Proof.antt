@@ -90,7 +90,7 @@ is-blanked-requires : tie.Need-is-blanked-requires Inv-loop μ-loop
 is-blanked-requires c κs = search needs
 
 cast-list-trace : tie.Need-cast-list-trace Inv-loop μ-loop
-cast-list-trace c = omega (arith, c .before .before .before .before .before .before .before .before .before .before .before .before .before .before .before .before .if1 .left, c .before .before .before .before .before .before .before .before .before .before .before .before .before .before .before .before .before .before .before .before .before .clear-below .ensures, sane (c .before .before .before .before .before .before .before .before .before .before .before .before .before .before .before .before .before .before .before .before .before .before .before .before .before .before .before .args .start .setup .size))
+cast-list-trace c = omega (arith, c .before .before .before .before .before .before .before .before .before .before .before .before .before .before .before .before .before .if1 .left, c .before .before .before .before .before .before .before .before .before .before .before .before .before .before .before .before .before .before .before .before .before .before .clear-below .ensures, sane (c .before .before .before .before .before .before .before .before .before .before .before .before .before .before .before .before .before .before .before .before .before .before .before .before .before .before .before .before .args .start .setup .size))
 
 list-trace-requires : tie.Need-list-trace-requires Inv-loop μ-loop
 list-trace-requires c κs = search needs
@@ -102,29 +102,29 @@ enum-told : tie.Need-enum-told Inv-loop μ-loop
 enum-told c = search needs
 
 add-state : tie.Need-add-state Inv-loop μ-loop
-add-state c = omega (arith, c .before .before .before .before .before .before .before .before .before .before .before .before .before .before .before .before .before .before .before .before .before .before .before .if1 .left, c .before .before .before .before .before .before .before .before .before .before .before .before .before .before .before .before .before .before .before .before .before .before .before .before .before .before .span .ensures .1, c .before .before .before .before .before .before .before .before .before .before .before .before .before .before .before .before .before .before .before .before .before .before .before .before .before .before .before .before .clear-below .ensures, sane (c .before .before .before .before .before .before .before .before .before .before .before .before .before .before .before .before .before .before .before .before .before .before .before .before .before .before .before .before .before .before .before .before .before .before .args .start .setup .size))
+add-state c = omega (arith, c .before .before .before .before .before .before .before .before .before .before .before .before .before .before .before .before .before .before .before .before .before .before .before .before .if1 .left, c .before .before .before .before .before .before .before .before .before .before .before .before .before .before .before .before .before .before .before .before .before .before .before .before .before .before .before .span .ensures .1, c .before .before .before .before .before .before .before .before .before .before .before .before .before .before .before .before .before .before .before .before .before .before .before .before .before .before .before .before .before .clear-below .ensures, sane (c .before .before .before .before .before .before .before .before .before .before .before .before .before .before .before .before .before .before .before .before .before .before .before .before .before .before .before .before .before .before .before .before .before .before .before .args .start .setup .size))
 
 add-i : tie.Need-add-i Inv-loop μ-loop
-add-i c = omega (arith, c .before .before .before .before .before .before .before .before .before .before .before .before .before .before .before .before .before .before .before .before .before .before .before .before .loop-test .taken, c .before .before .before .before .before .before .before .before .before .before .before .before .before .before .before .before .before .before .before .before .before .before .before .before .before .before .before .before .before .before .before .before .before .before .good)
+add-i c = omega (arith, c .before .before .before .before .before .before .before .before .before .before .before .before .before .before .before .before .before .before .before .before .before .before .before .before .before .loop-test .taken, c .before .before .before .before .before .before .before .before .before .before .before .before .before .before .before .before .before .before .before .before .before .before .before .before .before .before .before .before .before .before .before .before .before .before .before .good)
 
 loop-less : tie.Need-loop-less Inv-loop μ-loop
-loop-less c = omega (arith, c .before .before .before .before .before .before .before .before .before .before .before .before .before .before .before .before .before .before .before .before .before .before .before .before .loop-test .taken)
+loop-less c = omega (arith, c .before .before .before .before .before .before .before .before .before .before .before .before .before .before .before .before .before .before .before .before .before .before .before .before .before .loop-test .taken)
 
 loop-again : tie.Need-loop-again Inv-loop μ-loop
 loop-again c = λ k.
-    let at = c .before .before .before .before .before .before .before .before .before .before .before .before .before .before .before .before .before .before .before .before .before .before .before .before .before in
-    let a = c .before .before .before .before .before .before .before .before .before .before .before .before .before .before .before .before .before .before .before .before .before .before .before .before .before .before .before .before .before .before .before .before .before .before .args in
+    let at = c .before .before .before .before .before .before .before .before .before .before .before .before .before .before .before .before .before .before .before .before .before .before .before .before .before .before in
+    let a = c .before .before .before .before .before .before .before .before .before .before .before .before .before .before .before .before .before .before .before .before .before .before .before .before .before .before .before .before .before .before .before .before .before .before .before .args in
     let placing = at .before .before .is-placing .ensures in
-    let plain = simp placing at (sym (c .before .before .before .before .before .before .before .before .before .before .before .before .before .before .before .is-data .ensures) ∙ not-false _ (c .before .before .before .before .before .before .before .before .before .before .before .before .before .before .if3 .left)) in
-    let unseen = sym (c .before .before .before .before .before .before .before .before .before .before .before .before .before .before .before .before .before .before .before .before .before .seen-of .ensures) ∙ c .before .before .before .before .before .before .before .before .before .before .before .before .before .before .before .before .before .before .before .before .if2 .left in
+    let plain = simp placing at (sym (c .before .before .before .before .before .before .before .before .before .before .before .before .before .before .before .before .is-data .ensures) ∙ not-false _ (c .before .before .before .before .before .before .before .before .before .before .before .before .before .before .before .if3 .left)) in
+    let unseen = sym (c .before .before .before .before .before .before .before .before .before .before .before .before .before .before .before .before .before .before .before .before .before .before .seen-of .ensures) ∙ c .before .before .before .before .before .before .before .before .before .before .before .before .before .before .before .before .before .before .before .before .before .if2 .left in
     let to =
-    simp (c .before .before .before .before .before .before .before .before .before .data-of4 .ensures, c .before .before .before .before .before .before .before .before .before .before .data-of3 .ensures, c .before .before .before .before .before .before .before .before .before .before .before .before .data-of2 .ensures, c .before .before .before .before .before .before .before .before .before .before .before .before .before .data-of .ensures, placing) at (c .before .before .before .before .before .before .before .before .led-to .ensures) in
-    let blanked = simp (c .before .before .before .before .before .before .before .before .before .before .before .before .data-of2 .ensures, c .before .before .before .before .before .before .before .before .before .before .before .before .before .data-of .ensures, placing) at (c .before .before .before .before .before .before .before .is-blanked .ensures) in
+    simp (c .before .before .before .before .before .before .before .before .before .before .data-of4 .ensures, c .before .before .before .before .before .before .before .before .before .before .before .data-of3 .ensures, c .before .before .before .before .before .before .before .before .before .before .before .before .before .data-of2 .ensures, c .before .before .before .before .before .before .before .before .before .before .before .before .before .before .data-of .ensures, placing) at (c .before .before .before .before .before .before .before .before .before .led-to .ensures) in
+    let blanked = simp (c .before .before .before .before .before .before .before .before .before .before .before .before .before .data-of2 .ensures, c .before .before .before .before .before .before .before .before .before .before .before .before .before .before .data-of .ensures, placing) at (c .before .before .before .before .before .before .before .is-blanked .ensures) in
     let put = simp (to, blanked) at (c .before .before .before .before .before .list-trace .ensures) in
     simp (at .before .span .ensures .0, placing, to)
     (on-trace (a .words .now) k (a .sights .now) (a .start) (a .held) (a .out .now) (at .loop .i) (at .loop .state) (at .loop .n) (at .loop .out) (at .loop .inv k)
-    (omega (arith, c .before .before .before .before .before .before .before .before .before .before .before .before .before .before .before .before .before .before .before .before .before .before .before .before .loop-test .taken)) (omega (arith, c .before .before .before .before .before .before .before .before .before .before .before .before .before .before .before .before .before .before .before .before .before .before .before .if1 .left, at .before .before .before .clear-below .ensures)) plain unseen
-    (a .vector) (c .before .before .before .before .before .before .before .before .before .before .before .before .before .before .before .before .before .before .before .before .before .before .before .before .before .before .before .before .before .before .before .before .before .before .pre) _ _ (sym (put .0) ∙ c .before .more .given .1) (put .1))
+    (omega (arith, c .before .before .before .before .before .before .before .before .before .before .before .before .before .before .before .before .before .before .before .before .before .before .before .before .before .loop-test .taken)) (omega (arith, c .before .before .before .before .before .before .before .before .before .before .before .before .before .before .before .before .before .before .before .before .before .before .before .before .if1 .left, at .before .before .before .clear-below .ensures)) plain unseen
+    (a .vector) (c .before .before .before .before .before .before .before .before .before .before .before .before .before .before .before .before .before .before .before .before .before .before .before .before .before .before .before .before .before .before .before .before .before .before .before .pre) _ _ (sym (put .0) ∙ c .before .more .given .1) (put .1))
 
 same-length : tie.Need-same-length Inv-loop μ-loop
 same-length c = on-long _ _ _ _ _ _ _ _ _ (c .before .loop .inv (cursors 0))
@@ -151,12 +151,12 @@ returns-4 : tie.Need-returns-4 Inv-loop μ-loop
 returns-4 c = λ k. on-done _ _ _ _ _ _ _ _ _ (c .before .before .before .before .before .before .before .before .before .before .before .loop .inv k) _ refl refl
 
 same-length-5 : tie.Need-same-length-5 Inv-loop μ-loop
-same-length-5 c = c .before .before .before .before .list-trace .kept .1 .1 .1 .1 .1 .1 .0 ∙ on-long _ _ _ _ _ _ _ _ _ (c .before .before .before .before .before .before .before .before .before .before .before .before .before .before .before .before .before .before .before .before .before .before .before .before .loop .inv (cursors 0))
+same-length-5 c = c .before .before .before .before .list-trace .kept .1 .1 .1 .1 .1 .1 .0 ∙ on-long _ _ _ _ _ _ _ _ _ (c .before .before .before .before .before .before .before .before .before .before .before .before .before .before .before .before .before .before .before .before .before .before .before .before .before .loop .inv (cursors 0))
 
 returns-5 : tie.Need-returns-5 Inv-loop μ-loop
 returns-5 c = λ k.
     let put = c .before .before .before .before .list-trace .ensures in
-    on-done _ _ _ _ _ _ _ _ _ (on-full _ _ _ _ _ _ _ _ _ (c .before .before .before .before .before .before .before .before .before .before .before .before .before .before .before .before .before .before .before .before .before .before .before .before .loop .inv k) _ _ (sym (put .0) ∙ c .enum-told .given .1) (put .1)) _ refl refl
+    on-done _ _ _ _ _ _ _ _ _ (on-full _ _ _ _ _ _ _ _ _ (c .before .before .before .before .before .before .before .before .before .before .before .before .before .before .before .before .before .before .before .before .before .before .before .before .before .loop .inv k) _ _ (sym (put .0) ∙ c .enum-told .given .1) (put .1)) _ refl refl
 
 pub list-traces-spec : {M : Type 1} → statement M
 list-traces-spec =

@@ -11,6 +11,9 @@ enum-told c = search needs
 enum-known-motion : tie.Need-enum-known-motion
 enum-known-motion c = search needs
 
+is-off-requires : tie.Need-is-off-requires
+is-off-requires c κs = search needs
+
 address-requires : tie.Need-address-requires
 address-requires c κs = search needs
 
@@ -35,9 +38,10 @@ returns c = (simp (c .enum-told .given .1), simp (c .enum-told .given .1))
 
 returns-2 : tie.Need-returns-2
 unfolding itemsOf strokesOf firstStrokes
-returns-2 c = let m = c .before .before .before .motion .given .1 in
-    let a = c .before .address .ensures in
-    (simp (m, append-nil, ← a) (c .trace-part .ensures), simp (m, ← a) (c .trace-part .ensures))
+returns-2 c =
+    let m = c .before .before .before .before .motion .given .1 in
+    let drawn = simp (c .before .before .is-off .ensures, c .before .address .ensures) at (c .trace-part .ensures) in
+    (simp (m, append-nil) drawn, simp m drawn)
 
 returns-3 : tie.Need-returns-3
 unfolding strokesOf firstStrokes
@@ -52,6 +56,7 @@ drawn-of-spec =
     (tie.spec
     enum-told
     enum-known-motion
+    is-off-requires
     address-requires
     trace-part-requires
     enum-known-motion-2

@@ -33,7 +33,7 @@ returns c = simp (c .enum-told .given .1)
 
 returns-2 : tie.Need-returns-2
 unfolding strokesOf
-returns-2 c = simp (c .before .before .before .motion .given .1, ← c .before .address .ensures) (c .hit-trace .ensures)
+returns-2 c = simp (c .before .before .before .motion .given .1, ← c .before .address .ensures) (c .hit-trace .ensures _)
 
 returns-3 : tie.Need-returns-3
 unfolding strokesOf

@@ -20,15 +20,15 @@ hit-only-requires-2 c κs = search needs
 
 returns : tie.Need-returns
 unfolding hitIn
-returns c = simp (c .enum-told .given .1)
+returns c = λ off. simp (c .enum-told .given .1)
 
 returns-2 : tie.Need-returns-2
 unfolding hitIn
-returns-2 c = simp (c .before .enum-told2 .given .1) (c .hit-only .ensures)
+returns-2 c = λ off. simp (c .before .enum-told2 .given .1) (c .hit-only .ensures)
 
 returns-3 : tie.Need-returns-3
 unfolding hitIn
-returns-3 c = simp (c .before .enum-told3 .given .1) (c .hit-only2 .ensures)
+returns-3 c = λ off. simp (c .before .enum-told3 .given .1) (c .hit-only2 .ensures)
 
 pub hit-trace-spec : {M : Type 1} → statement M
 hit-trace-spec =

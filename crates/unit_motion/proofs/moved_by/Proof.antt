@@ -21,14 +21,14 @@ place-requires-2 c κs = search needs
 enum-told-4 : tie.Need-enum-told-4
 enum-told-4 c = search needs
 
-step-requires : tie.Need-step-requires
-step-requires c κs = search needs
+stepped-to-requires : tie.Need-stepped-to-requires
+stepped-to-requires c κs = search needs
 
 enum-told-5 : tie.Need-enum-told-5
 enum-told-5 c = search needs
 
-step-requires-2 : tie.Need-step-requires-2
-step-requires-2 c κs = search needs
+stepped-to-requires-2 : tie.Need-stepped-to-requires-2
+stepped-to-requires-2 c κs = search needs
 
 enum-told-6 : tie.Need-enum-told-6
 enum-told-6 c = search needs
@@ -56,11 +56,11 @@ returns-3 c = simp (c .before .enum-told3 .given .1) (c .place2 .ensures)
 
 returns-4 : tie.Need-returns-4
 unfolding beamAfter twoOf fourOf
-returns-4 c = simp (c .before .enum-told4 .given .1) (c .step .ensures)
+returns-4 c = simp (c .before .enum-told4 .given .1) (c .stepped-to .ensures)
 
 returns-5 : tie.Need-returns-5
 unfolding beamAfter twoOf fourOf
-returns-5 c = simp (c .before .enum-told5 .given .1) (c .step2 .ensures)
+returns-5 c = simp (c .before .enum-told5 .given .1) (c .stepped-to2 .ensures)
 
 returns-6 : tie.Need-returns-6
 unfolding beamAfter twoOf fourOf
@@ -80,9 +80,9 @@ moved-by-spec =
     enum-told-3
     place-requires-2
     enum-told-4
-    step-requires
+    stepped-to-requires
     enum-told-5
-    step-requires-2
+    stepped-to-requires-2
     enum-told-6
     after-codes-requires
     enum-told-7

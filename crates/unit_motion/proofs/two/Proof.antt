@@ -15,26 +15,14 @@ enum-told-3 c = search needs
 enum-told-4 : tie.Need-enum-told-4
 enum-told-4 c = search needs
 
-blanked-step-requires : tie.Need-blanked-step-requires
-blanked-step-requires c κs = search needs
-
-trace-by-requires : tie.Need-trace-by-requires
-trace-by-requires c κs = search needs
-
-step-requires : tie.Need-step-requires
-step-requires c κs = search needs
+by-increment-requires : tie.Need-by-increment-requires
+by-increment-requires c κs = search needs
 
 enum-told-5 : tie.Need-enum-told-5
 enum-told-5 c = search needs
 
-blanked-step-requires-2 : tie.Need-blanked-step-requires-2
-blanked-step-requires-2 c κs = search needs
-
-trace-by-requires-2 : tie.Need-trace-by-requires-2
-trace-by-requires-2 c κs = search needs
-
-step-requires-2 : tie.Need-step-requires-2
-step-requires-2 c κs = search needs
+by-increment-requires-2 : tie.Need-by-increment-requires-2
+by-increment-requires-2 c κs = search needs
 
 enum-told-6 : tie.Need-enum-told-6
 enum-told-6 c = search needs
@@ -56,21 +44,11 @@ returns-3 c = simp (c .enum-told3 .given .1)
 
 returns-4 : tie.Need-returns-4
 unfolding twoOf
-returns-4 c = simp (
-  c .before .before .before .enum-told4 .given .1,
-  ← c .before .before .blanked-step .ensures,
-  ← c .before .trace-by .ensures,
-  ← c .step .ensures,
-)
+returns-4 c = simp (c .before .enum-told4 .given .1) (c .by-increment .ensures)
 
 returns-5 : tie.Need-returns-5
 unfolding twoOf
-returns-5 c = simp (
-  c .before .before .before .enum-told5 .given .1,
-  ← c .before .before .blanked-step2 .ensures,
-  ← c .before .trace-by2 .ensures,
-  ← c .step2 .ensures,
-)
+returns-5 c = simp (c .before .enum-told5 .given .1) (c .by-increment2 .ensures)
 
 returns-6 : tie.Need-returns-6
 unfolding twoOf
@@ -88,13 +66,9 @@ two-spec =
     enum-told-2
     enum-told-3
     enum-told-4
-    blanked-step-requires
-    trace-by-requires
-    step-requires
+    by-increment-requires
     enum-told-5
-    blanked-step-requires-2
-    trace-by-requires-2
-    step-requires-2
+    by-increment-requires-2
     enum-told-6
     enum-told-7
     returns
