@@ -1,4 +1,5 @@
--- The lines of drawn items: `point X Y at A`, `vector X Y X Y at A`, with `off` before `at` where the screen was left, `character X Y code CC basic at A` (or `large`), `cursor X Y code CC basic at A`.
+-- The lines of drawn items: `point X Y at A`, `vector X Y X Y at A`, both with `off` before `at` where the screen was left; `character X Y code CC basic at A`
+-- (or `large`), `cursor X Y code CC basic at A`.
 use Prim.Native.Nat.{ℕ, _+_, _*_, _/_, _%_, min}
 use mathlib.Core.Bool.{cond}
 use mathlib.Core.List.{List, [], _++_}

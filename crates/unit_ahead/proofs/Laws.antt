@@ -82,11 +82,11 @@ unfolding codesStrokes
 codes-drawn size a b c0 c1 beam at next = drawn-append (codeStrokes size a c0 beam at) (codeStrokes size b c1 (afterCode size a beam) next)
 
 -- coordinates or increments draw a point or a vector, or nothing where they are blanked
-pub trace-drawn : (blanked vector : Bool) (from : Beam) (shift : Shift) (at : ℕ)
-    → upto 0 (traceStrokes (traceBy blanked (cond vector trace.Vector trace.Point)) from (shift .to) (shift .off) at) ≡ cond (not blanked) (traceItem vector from shift at ∷ []) []
-trace-drawn true vector from shift at = all-drawn []
-trace-drawn false true from shift at = all-drawn (stroke (vectorAt from (shift .to) (shift .off) at) (shift .to) ∷ [])
-trace-drawn false false from shift at = all-drawn (stroke (pointAt (shift .to) (shift .off) at) (shift .to) ∷ [])
+pub trace-drawn : (blanked vector : Bool) (from to : Beam) (off : Bool) (at : ℕ)
+    → upto 0 (traceStrokes (traceBy blanked (cond vector trace.Vector trace.Point)) from to off at) ≡ cond (not blanked) (traceItem vector from to off at ∷ []) []
+trace-drawn true vector from to off at = all-drawn []
+trace-drawn false true from to off at = all-drawn (stroke (vectorAt from to off at) to ∷ [])
+trace-drawn false false from to off at = all-drawn (stroke (pointAt to off at) to ∷ [])
 
 -- an absolute coordinate leaves the screen never
 off-led : (places : Bool) (a b c d : ℕ) (beam : Beam) → offOf (cond places Absolute (Increment (ledTo places a b c d beam .off))) ≡ ledTo places a b c d beam .off
@@ -150,6 +150,10 @@ module _ (words : List ℕ) (k : Cursor) (sights : List ℕ) (s : State) (held :
       abbrev motionHere : Motion
       motionHere = dataMotion (s .mode) first (byte 1) (byte 2) (byte 3) (x .beam)
 
+      -- where coordinates or increments take the beam
+      abbrev led : Shift
+      led = ledTo (placing (s .mode)) first (byte 1) (byte 2) (byte 3) (x .beam)
+
       drawn-here : itemsDrawn (buffer words k) x (getD sights i 0)
           ≡ upto 0 (strokesOf motionHere (x .beam) (cursorOf (getD words (x .address) 0)) (cursorOf (getD words (x .address + 1) 0)) (s .setup .size) (x .address))
       drawn-here =
@@ -174,16 +178,15 @@ module _ (words : List ℕ) (k : Cursor) (sights : List ℕ) (s : State) (held :
 
       -- coordinates or increments
       pub on-trace : (vector : Bool) → Traces (s .mode) vector → (held′ : ℕ) (out″ : List ℕ)
-          → listing (length out′) n (cond (not (blankedOf (placing (s .mode)) first (byte 1))) (traceItem vector (x .beam) (ledTo (placing (s .mode)) first (byte 1) (byte 2) (byte 3) (x .beam)) (x .address) ∷ []) []) ≡ Held held′
-          → out″ ≡ listed out′ n (cond (not (blankedOf (placing (s .mode)) first (byte 1))) (traceItem vector (x .beam) (ledTo (placing (s .mode)) first (byte 1) (byte 2) (byte 3) (x .beam)) (x .address) ∷ []) [])
-          → AheadOn (buffer words k) sights s held out (i + 1) (beamed x (x .address + spanOf (placing (s .mode))) (ledTo (placing (s .mode)) first (byte 1) (byte 2) (byte 3) (x .beam) .to)) held′ out″
+          → listing (length out′) n (cond (not (blankedOf (placing (s .mode)) first (byte 1))) (traceItem vector (x .beam) (led .to) (led .off) (x .address) ∷ []) []) ≡ Held held′
+          → out″ ≡ listed out′ n (cond (not (blankedOf (placing (s .mode)) first (byte 1))) (traceItem vector (x .beam) (led .to) (led .off) (x .address) ∷ []) [])
+          → AheadOn (buffer words k) sights s held out (i + 1) (beamed x (x .address + spanOf (placing (s .mode))) (led .to)) held′ out″
       unfolding strokesOf beamAfter
       on-trace vector traces held′ out″ f g =
-          let shift = ledTo (placing (s .mode)) first (byte 1) (byte 2) (byte 3) (x .beam) in
           let blanked = blankedOf (placing (s .mode)) first (byte 1) in
-          step-on (To (cond (placing (s .mode)) Absolute (Increment (shift .off))) (traceBy blanked (cond vector trace.Vector trace.Point)) (shift .to))
+          step-on (To (cond (placing (s .mode)) Absolute (Increment (led .off))) (traceBy blanked (cond vector trace.Vector trace.Point)) (led .to))
           (traces first (byte 1) (byte 2) (byte 3) (x .beam)) _
-          (rw (here (s .setup .size) (x .address) (omega arith), off-led (placing (s .mode)) first (byte 1) (byte 2) (byte 3) (x .beam)) (trace-drawn blanked vector (x .beam) shift (x .address)))
+          (rw (here (s .setup .size) (x .address) (omega arith), off-led (placing (s .mode)) first (byte 1) (byte 2) (byte 3) (x .beam)) (trace-drawn blanked vector (x .beam) (led .to) (led .off) (x .address)))
           held′ out″ f g
 
       -- codes

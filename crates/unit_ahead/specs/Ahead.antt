@@ -30,8 +30,8 @@ ledTo places a b c d beam = cond places (record { to = placed a b c d; off = fal
 abbrev pub blankedOf : Bool → ℕ → ℕ → Bool
 blankedOf places a b = cond places (blankedPlace a) (blankedStep b)
 
-abbrev pub traceItem : Bool → Beam → Shift → ℕ → Item
-traceItem vector from shift at = cond vector (vectorAt from (shift .to) (shift .off) at) (pointAt (shift .to) (shift .off) at)
+abbrev pub traceItem : Bool → Beam → Beam → Bool → ℕ → Item
+traceItem vector from to off at = cond vector (vectorAt from to off at) (pointAt to off at)
 
 -- a mode whose data are such coordinates or increments, and leave points or vectors
 abbrev pub Traces : Mode → Bool → Type 0

@@ -67,23 +67,18 @@ fn list_trace(
     vector: bool,
     blanked: bool,
     from: Beam,
-    shift: Shift,
+    to: Beam,
+    off: bool,
     at: u16,
     held: usize,
     out: &mut [u16],
 ) -> Listing
-    ensures { λ r. ⌜ (r ≡ listing (length (now (out .entry))) held (cond (not blanked) (traceItem vector from shift at ∷ []) [])) × (now (out .exit) ≡ listed (now (out .entry)) held (cond (not blanked) (traceItem vector from shift at ∷ []) [])) ⌝ }
+    ensures { λ r. ⌜ (r ≡ listing (length (now (out .entry))) held (cond (not blanked) (traceItem vector from to off at ∷ []) [])) × (now (out .exit) ≡ listed (now (out .entry)) held (cond (not blanked) (traceItem vector from to off at ∷ []) [])) ⌝ }
 {
-    let to = shift.to;
     if vector {
-        items::list_where(
-            out,
-            held,
-            !blanked,
-            drawing::vector(from, to, shift.off, at),
-        )
+        items::list_where(out, held, !blanked, drawing::vector(from, to, off, at))
     } else {
-        items::list_where(out, held, !blanked, drawing::point(to, shift.off, at))
+        items::list_where(out, held, !blanked, drawing::point(to, off, at))
     }
 }
 
@@ -136,8 +131,10 @@ fn list_traces(
             beam,
         );
         let to = shift.to;
+        let off = shift.off;
         let blanked = is_blanked(placing, x, y);
-        let Listing::Held(more) = list_trace(vector, blanked, beam, shift, at as u16, n, out) else {
+        let Listing::Held(more) = list_trace(vector, blanked, beam, to, off, at as u16, n, out)
+        else {
             break;
         };
         n = more;

@@ -41,8 +41,8 @@ characterAt size code beam at = Character size (tenBits (beam .x)) (tenBits (bea
 abbrev pub cursorAt : CharacterSize → ℕ → Beam → ℕ → Item
 cursorAt size code beam at = Cursor size (tenBits (beam .x)) (tenBits (beam .y)) code at
 
--- what coordinates draw: nothing, a point, or a vector from where the beam stood, also where it has no length; "A point or vector drawn by such
--- a step", which left the screen, tells it (02, C-19)
+-- what coordinates draw: nothing, a point, or a vector from where the beam stood, also where it has no length; both tell whether
+-- the screen was left (02, C-19)
 abbrev pub traceStrokes : Trace → Beam → Beam → Bool → ℕ → List Stroke
 traceStrokes trace.Blanked beam to off at = []
 traceStrokes trace.Point beam to off at = stroke (pointAt to off at) to ∷ []

@@ -151,7 +151,7 @@ returns-4 : tie.Need-returns-4 Inv-loop μ-loop
 returns-4 c = λ k. on-done _ _ _ _ _ _ _ _ _ (c .before .before .before .before .before .before .before .before .before .before .before .loop .inv k) _ refl refl
 
 same-length-5 : tie.Need-same-length-5 Inv-loop μ-loop
-same-length-5 c = c .before .before .before .before .list-trace .kept .1 .1 .1 .1 .1 .1 .0 ∙ on-long _ _ _ _ _ _ _ _ _ (c .before .before .before .before .before .before .before .before .before .before .before .before .before .before .before .before .before .before .before .before .before .before .before .before .before .loop .inv (cursors 0))
+same-length-5 c = c .before .before .before .before .list-trace .kept .1 .1 .1 .1 .1 .1 .1 .0 ∙ on-long _ _ _ _ _ _ _ _ _ (c .before .before .before .before .before .before .before .before .before .before .before .before .before .before .before .before .before .before .before .before .before .before .before .before .before .loop .inv (cursors 0))
 
 returns-5 : tie.Need-returns-5 Inv-loop μ-loop
 returns-5 c = λ k.
