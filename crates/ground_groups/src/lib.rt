@@ -1,6 +1,8 @@
 // Groups of two locations, fetched from the words of a buffer or from the bytes of an image.
 //
 // The contracts cite `specs/Groups.antt`.
+#![tactic(auto)]
+
 ghost use Rattle.std.specs.Prelude.{◌≡◌};
 ghost use Rattle.ground_groups.specs.Groups.{pair_of, words_group, image_group};
 
@@ -10,7 +12,7 @@ use ground_setup::Setup;
 use ground_words as words;
 
 // Two locations that are read together.
-#[derive(Drop)]
+#[derive(Clone, Copy)]
 pub enum Group {
     // One of them is unwritten.
     Unwritten,
@@ -39,6 +41,7 @@ fn pair_of(w: u16, v: u16, a: usize, b: usize) -> Group
 }
 
 // The group at an address of a buffer.
+#[tactic(auto, unfolding(crate::specs::Groups::words_group))]
 pub fn group_at(words: &[u16], setup: Setup, at: usize) -> Group
     ensures { result ≡ words_group words.now setup at }
 {
@@ -49,6 +52,7 @@ pub fn group_at(words: &[u16], setup: Setup, at: usize) -> Group
 }
 
 // The group at an address of an image.
+#[tactic(auto, unfolding(crate::specs::Groups::image_group))]
 pub fn group_in(image: &[u8], setup: Setup, at: usize) -> Group
     ensures { result ≡ image_group image.now setup at }
 {

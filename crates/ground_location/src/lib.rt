@@ -1,6 +1,8 @@
 // One location of the buffer: a 16-bit word of data, cursor bit, parity bit and the house bit "written".
 //
 // The contracts cite `specs/Location.antt`; `proofs/Laws.antt` says what a stored word holds.
+#![tactic(auto)]
+
 ghost use Rattle.std.specs.Prelude.{◌≡◌, cond, ◌≤◌};
 ghost use Rattle.ground_location.specs.Location.{data_of, cursor_of, parity_of, written_of, proper_of, good_of, word_of, parity_bit, fresh_word};
 
@@ -68,6 +70,7 @@ fn parity_bit(low: u16) -> u16
 }
 
 // The word that a store makes: its ones among data, C and P are odd in number.
+#[tactic(auto, unfolding(crate::specs::Location::word_of))]
 pub fn word_of(byte: u8, cursor: bool, written: bool) -> u16
     ensures { result ≡ word_of byte cursor written }
 {

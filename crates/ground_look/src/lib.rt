@@ -1,6 +1,8 @@
 // One step of regeneration, looked at: what stands at a place of a buffer or of an image, and where the step goes.
 //
 // The contracts cite `specs/Look.antt`, which the device and the validator share.
+#![tactic(auto)]
+
 ghost use Rattle.std.specs.Prelude.{◌≡◌, ◌+◌, ◌*◌, ◌<◌};
 ghost use Rattle.ground_groups.specs.Groups.{words_group, image_group};
 ghost use Rattle.ground_look.specs.Look.{fault_number, order_by, found_by, placing, data_by, first_by, target_by, target_in, coordinate_in, look_of};
@@ -13,7 +15,7 @@ use ground_setup as setup;
 use ground_setup::{Setup, Size};
 
 // The faults of a step.
-#[derive(Drop)]
+#[derive(Clone, Copy)]
 pub enum Fault {
     // 1: a byte to be read is unwritten.
     Unwritten,
@@ -28,7 +30,7 @@ pub enum Fault {
 }
 
 // What a step finds, with the bytes read and the next address.
-#[derive(Drop)]
+#[derive(Clone, Copy)]
 pub enum Look {
     // A fault.
     Fault(Fault),
@@ -55,7 +57,7 @@ pub enum Look {
 }
 
 // What the first group makes of a step.
-#[derive(Drop)]
+#[derive(Clone, Copy)]
 pub enum Begun {
     // All of it.
     Done(Look),
@@ -206,6 +208,7 @@ fn coordinate_in(x_high: u8, x_low: u8, next: usize, group: Group) -> Look
 }
 
 // One look at a place of a buffer.
+#[tactic(auto, unfolding(crate::specs::Look::look_of))]
 pub fn look_at(words: &[u16], setup: Setup, at: usize, mode: Mode) -> Look
     ensures { result ≡ look_of (words_group words.now setup) setup at mode }
 {
@@ -232,6 +235,7 @@ pub fn look_at(words: &[u16], setup: Setup, at: usize, mode: Mode) -> Look
 }
 
 // One look at a place of an image.
+#[tactic(auto, unfolding(crate::specs::Look::look_of))]
 pub fn look_in(image: &[u8], setup: Setup, at: usize, mode: Mode) -> Look
     ensures { result ≡ look_of (image_group image.now setup) setup at mode }
 {

@@ -1,11 +1,13 @@
 // The orders of a display program: the modes that they enter, the constant table of their rows, and the look-up by a code.
 //
 // The contract cites `specs/Orders.antt`; `specs/Rule.antt` has the table's rule, `proofs/Laws.antt` what it gives.
+#![tactic(auto)]
+
 ghost use Rattle.std.specs.Prelude.{◌≡◌};
 ghost use Rattle.ground_orders.specs.Orders.{order_of};
 
 // What data mean where a step finds no order.
-#[derive(Drop)]
+#[derive(Clone, Copy)]
 pub enum Mode {
     Idle,
     Point,
@@ -17,7 +19,7 @@ pub enum Mode {
 }
 
 // When the light pen's detects count.
-#[derive(Drop)]
+#[derive(Clone, Copy)]
 pub enum PenMode {
     Normal,
     Disabled,
@@ -25,7 +27,7 @@ pub enum PenMode {
 }
 
 // What follows an order.
-#[derive(Drop)]
+#[derive(Clone, Copy)]
 pub enum Follows {
     // Data of a mode.
     Enter(Mode),
@@ -44,7 +46,7 @@ pub enum Follows {
 }
 
 // An order's row: its code, its length in bytes, and what follows.
-#[derive(Drop)]
+#[derive(Clone, Copy)]
 pub struct Row {
     pub code: u8,
     pub length: u8,
@@ -52,7 +54,7 @@ pub struct Row {
 }
 
 // The row of a code, if there is one.
-#[derive(Drop)]
+#[derive(Clone, Copy)]
 pub enum Found {
     Order(Row),
     Missing,
@@ -163,6 +165,7 @@ const TABLE: [Row; 20] = [
 ];
 
 // The row of the table that has the code.
+#[tactic(auto, unfolding(crate::specs::Orders::find_in, crate::specs::Orders::order_of, crate::specs::Orders::table))]
 pub fn order_of(code: u8) -> Found
     ensures { result ≡ order_of code }
 {

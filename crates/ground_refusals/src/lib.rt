@@ -1,9 +1,11 @@
 // The refusals of every call, with their numbers.
+#![tactic(auto)]
+
 ghost use Rattle.std.specs.Prelude.{◌≡◌, ◌<◌};
 ghost use Rattle.ground_refusals.specs.Refusals.{refusal_number};
 
 // Why a call is refused.
-#[derive(Drop)]
+#[derive(Clone, Copy)]
 pub enum Refusal {
     // 1: the size is neither 4,096 nor 8,192.
     WrongSize,

@@ -1,26 +1,28 @@
 // What a unit is built with: the size of its buffer, the addresses that go round in it, and the setup that a look is handed.
 //
 // The contracts cite `specs/Setup.antt`; `proofs/Laws.antt` has the laws of every size.
+#![tactic(auto)]
+
 ghost use Rattle.std.specs.Prelude.{◌≡◌, ◌≤◌};
 ghost use Rattle.ground_setup.specs.Setup.{size_of, sized_of, Inside, wrap_of, ahead_of};
 
 use ground_refusals::Refusal;
 
 // The locations of a buffer: 4,096 or 8,192.
-#[derive(Drop)]
+#[derive(Clone, Copy)]
 pub enum Size {
     K4,
     K8,
 }
 
 // What a look depends on beside the bytes, for device and validator alike.
-#[derive(Drop)]
+#[derive(Clone, Copy)]
 pub struct Setup {
     pub size: Size,
 }
 
 // A number taken as a size.
-#[derive(Drop)]
+#[derive(Clone, Copy)]
 pub enum Sized {
     Of(Size),
     Refused(Refusal),

@@ -1,4 +1,6 @@
 // The words of a buffer of any size, lent as a slice: one read and one store, for every index.
+#![tactic(auto)]
+
 ghost use Rattle.std.specs.Prelude.{◌≡◌, get_or, set};
 
 // The word at an index, and 0 outside.
