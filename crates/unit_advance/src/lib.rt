@@ -1,6 +1,8 @@
 // Advancing: a unit goes on over sights, one step for each, until they are used up or it stops. Nothing is listed.
 //
 // The contracts cite `specs/Advance.antt`.
+#![tactic(auto)]
+
 ghost use Rattle.std.specs.Prelude.{◌≡◌, cond, not, ◌&&◌, List, ℕ, ◌<◌, ◌≤◌, ltb, take};
 ghost use Rattle.unit_head.specs.Head.{unit};
 ghost use Rattle.unit_step.specs.Run.{steps_at, is_idle};
@@ -16,7 +18,7 @@ use unit_step::{Stepped, Stop};
 use unit_stretch as stretch;
 
 // Why advancing ends.
-#[derive(Drop)]
+#[derive(Clone, Copy)]
 pub enum End {
     // The sights are used up.
     SightsUsed,
@@ -27,7 +29,7 @@ pub enum End {
 }
 
 // Where advancing has come to.
-#[derive(Drop)]
+#[derive(Clone, Copy)]
 pub struct Progress {
     pub state: State,
     pub steps: usize,
@@ -35,14 +37,14 @@ pub struct Progress {
 }
 
 // What advancing answers: the steps done and why it ended, or a refusal.
-#[derive(Drop)]
+#[derive(Clone, Copy)]
 pub enum AdvanceReply {
     Done(usize, End),
     Refused(Refusal),
 }
 
 // The head after advancing, and the answer.
-#[derive(Drop)]
+#[derive(Clone, Copy)]
 pub struct HeadAdvanced {
     pub head: Head,
     pub answer: AdvanceReply,
@@ -104,6 +106,7 @@ fn is_over(idle: bool, mode: Mode) -> bool
 }
 
 // Steps from a state on, one for each sight; only those from idle mode, if that is wanted.
+#[tactic(auto, using(crate::proofs::Going::goes_further, crate::proofs::Going::goes_no_further, crate::proofs::Going::going_none, crate::proofs::Going::going_stretch, crate::proofs::Going::going_step, crate::proofs::Going::going_all, crate::proofs::Going::going_over, crate::proofs::Going::going_stops))]
 fn advance_from(words: &[u16], sights: &[u8], start: State, idle: bool) -> Progress
     ensures { result ≡ progress_over words.now (take (used_by idle words.now sights.now start) sights.now) start }
 {
@@ -150,6 +153,7 @@ fn greater(a: u8, b: u8) -> u8
 }
 
 // Whether no sight is above 2.
+#[tactic(auto, using(crate::proofs::Sights::greatest_more, crate::proofs::Sights::greatest_all))]
 pub fn all_sights(sights: &[u8]) -> bool
     ensures { result ≡ all_sights sights.now }
 {
@@ -225,6 +229,7 @@ fn advanced_by(mut head: Head, progress: Progress) -> HeadAdvanced
 }
 
 // A unit that runs goes on over sights, over those of steps from idle mode if only they are wanted; another does nothing.
+#[tactic(auto, unfolding(crate::specs::Advance::gone_over))]
 fn go_over(words: &[u16], head: Head, sights: &[u8], idle: bool) -> HeadAdvanced
     ensures { advance_ended words.now result ≡ gone_over (unit words.now head) (take (used_by idle words.now sights.now head.state) sights.now) }
 {
@@ -245,6 +250,7 @@ fn go_over(words: &[u16], head: Head, sights: &[u8], idle: bool) -> HeadAdvanced
 }
 
 // Advances the unit, one step for each sight.
+#[tactic(auto, unfolding(crate::specs::Advance::unit_advance))]
 pub fn advance(words: &[u16], head: Head, sights: &[u8]) -> HeadAdvanced
     ensures { advance_ended words.now result ≡ unit_advance (unit words.now head) sights.now }
 {
@@ -258,6 +264,7 @@ pub fn advance(words: &[u16], head: Head, sights: &[u8]) -> HeadAdvanced
 }
 
 // Advances the unit as long as its mode is idle, in which no step draws and no sight is looked at.
+#[tactic(auto, unfolding(crate::specs::Advance::idle_advance))]
 pub fn advance_idle(words: &[u16], head: Head, sights: &[u8]) -> HeadAdvanced
     ensures { advance_ended words.now result ≡ idle_advance (unit words.now head) sights.now }
 {

@@ -2,6 +2,8 @@
 // sight that the pen sees, the end of the buffer, or little room. The unit is not moved.
 //
 // The contracts cite `specs/Ahead.antt`.
+#![tactic(auto)]
+
 ghost use Rattle.std.specs.Prelude.{◌≡◌, cond, not, [], ◌∷◌, ◌+◌, ◌/◌, ◌≤◌, ltb, length};
 ghost use Rattle.unit_cursor.specs.Cursor.{buffer};
 ghost use Rattle.unit_cursor.specs.declared.Cursor.{Cursor};
@@ -26,7 +28,7 @@ use unit_pen as pen;
 use unit_plain as plain;
 
 // How many steps are listed, and how many items the list then holds.
-#[derive(Drop)]
+#[derive(Clone, Copy)]
 pub struct AheadListed {
     pub steps: usize,
     pub held: usize,
@@ -78,6 +80,7 @@ fn list_trace(
 }
 
 // Lists coordinates or increments ahead, whose items no cursor is among.
+#[tactic(auto, using(ground_setup::proofs::Laws::sane, crate::proofs::Laws::on_none, crate::proofs::Laws::on_done, crate::proofs::Laws::on_long, crate::proofs::Laws::on_full, crate::proofs::Laws::on_trace))]
 fn list_traces(
     words: &[u16],
     start: State,
@@ -141,6 +144,7 @@ fn list_traces(
 }
 
 // Lists what a code draws: its character, then its cursor.
+#[tactic(auto, using(unit_items::proofs::Laws::taken, unit_items::proofs::Laws::listed_on, unit_items::proofs::Laws::not_full, crate::proofs::Laws::one_at_most, crate::proofs::Laws::code_drawn))]
 fn list_code(
     size: CharacterSize,
     code: u8,
@@ -166,6 +170,7 @@ fn list_code(
 }
 
 // Lists what two codes draw.
+#[tactic(auto, using(unit_items::proofs::Laws::taken, unit_items::proofs::Laws::listed_on, crate::proofs::Laws::code_short, crate::proofs::Laws::codes_drawn))]
 fn list_pair(
     size: CharacterSize,
     a: u8,
@@ -198,6 +203,7 @@ fn is_tight(held: usize, room: usize) -> bool
 }
 
 // Lists codes ahead.
+#[tactic(auto, using(ground_setup::proofs::Laws::sane, crate::proofs::Laws::on_none, crate::proofs::Laws::on_done, crate::proofs::Laws::on_long, crate::proofs::Laws::on_codes))]
 fn list_codes(
     words: &[u16],
     cursor: Cursor,
@@ -258,6 +264,7 @@ fn list_codes(
 }
 
 // Lists the stretch of plain data ahead of a state, over sights.
+#[tactic(auto, using(crate::proofs::Laws::on_none, crate::proofs::Laws::on_done, crate::proofs::Laws::points_trace, crate::proofs::Laws::vectors_trace, crate::proofs::Laws::steps_point, crate::proofs::Laws::steps_trace, crate::proofs::Laws::basic_writes, crate::proofs::Laws::large_writes))]
 pub fn list_ahead(
     words: &[u16],
     cursor: Cursor,

@@ -1,31 +1,33 @@
 // The beam of the display: absolute coordinates, increments, spacings and new line. It knows numbers alone, and of a
 // coordinate that is handed over it takes the ten lowest bits.
+#![tactic(auto)]
+
 ghost use Rattle.std.specs.Prelude.{◌≡◌, ◌*◌, ◌/◌, ◌<◌, ◌≤◌, pos, ◌+ℤ◌};
 ghost use Rattle.unit_beam.specs.Beam.{ten_bits, absolute, placed, blanked_place, exact_sum, sum_of, shifted, blanked_step, spaced, across, down, line_below, new_line, after_character, high_byte, low_byte};
 
 // Where the beam stands.
-#[derive(Drop)]
+#[derive(Clone, Copy)]
 pub struct Beam {
     pub x: u16,
     pub y: u16,
 }
 
 // A coordinate and an increment added: the ten bits of the sum, and whether the exact sum left 0 to 1,023.
-#[derive(Drop)]
+#[derive(Clone, Copy)]
 struct Sum {
     cut: u16,
     off: bool,
 }
 
 // The beam moved by increments: where it then stands, and whether an exact sum left the screen.
-#[derive(Drop)]
+#[derive(Clone, Copy)]
 pub struct Shift {
     pub to: Beam,
     pub off: bool,
 }
 
 // The two sizes of characters.
-#[derive(Drop)]
+#[derive(Clone, Copy)]
 pub enum CharacterSize {
     Basic,
     Large,
@@ -52,6 +54,7 @@ fn absolute_of(high: u8, low: u8) -> u16
 }
 
 // The beam at the absolute coordinates of four bytes.
+#[tactic(auto, unfolding(crate::specs::Beam::placed))]
 pub fn place(xh: u8, xl: u8, yh: u8, yl: u8) -> Beam
     ensures { result ≡ placed xh xl yh yl }
 {
@@ -62,6 +65,7 @@ pub fn place(xh: u8, xl: u8, yh: u8, yl: u8) -> Beam
 }
 
 // Whether absolute coordinates are blanked, by the first of their bytes.
+#[tactic(auto, unfolding(crate::specs::Beam::blanked_place))]
 pub fn blanked_place(xh: u8) -> bool
     ensures { result ≡ blanked_place xh }
 {
@@ -69,6 +73,7 @@ pub fn blanked_place(xh: u8) -> bool
 }
 
 // The exact sum of a coordinate and an increment, told as 1,024 more, so that it is never below 0.
+#[tactic(auto, using(crate::proofs::Sums::raised), unfolding(crate::specs::Beam::exact_sum))]
 fn exact_sum(c: u16, b: u8) -> u16
     ensures { pos result ≡ exact_sum c b +ℤ pos 1024 }
 {
@@ -76,6 +81,7 @@ fn exact_sum(c: u16, b: u8) -> u16
 }
 
 // A coordinate and an increment added.
+#[tactic(auto, using(crate::proofs::Sums::cut_raised, crate::proofs::Sums::off_raised), unfolding(crate::specs::Beam::summed))]
 fn sum_of(c: u16, b: u8) -> Sum
     ensures { result ≡ sum_of c b }
 {
@@ -87,6 +93,7 @@ fn sum_of(c: u16, b: u8) -> Sum
 }
 
 // The beam moved by the increments of two bytes.
+#[tactic(auto, unfolding(crate::specs::Beam::stepped, crate::specs::Beam::leaves_screen, crate::specs::Beam::shifted))]
 pub fn step(beam: Beam, dx: u8, dy: u8) -> Shift
     ensures { result ≡ shifted beam dx dy }
 {
@@ -99,6 +106,7 @@ pub fn step(beam: Beam, dx: u8, dy: u8) -> Shift
 }
 
 // Whether increments are blanked, by the second of their bytes.
+#[tactic(auto, unfolding(crate::specs::Beam::blanked_step))]
 pub fn blanked_step(dy: u8) -> bool
     ensures { result ≡ blanked_step dy }
 {
@@ -130,6 +138,7 @@ fn down_of(size: CharacterSize) -> u16
 }
 
 // The Y of the line that is so far below.
+#[tactic(auto, unfolding(crate::specs::Beam::line_below))]
 fn line_below(y: u16, distance: u16) -> u16
     ensures { result ≡ line_below y distance }
 {
@@ -137,6 +146,7 @@ fn line_below(y: u16, distance: u16) -> u16
 }
 
 // The beam at the start of the next line.
+#[tactic(auto, unfolding(crate::specs::Beam::new_line))]
 pub fn new_line(size: CharacterSize, beam: Beam) -> Beam
     ensures { result ≡ new_line size beam }
 {
@@ -147,6 +157,7 @@ pub fn new_line(size: CharacterSize, beam: Beam) -> Beam
 }
 
 // The beam where the character after this one stands.
+#[tactic(auto, unfolding(crate::specs::Beam::after_character))]
 pub fn after_character(size: CharacterSize, beam: Beam) -> Beam
     ensures { result ≡ after_character size beam }
 {

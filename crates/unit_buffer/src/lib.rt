@@ -1,6 +1,8 @@
 // Writing bytes into a buffer, and reading them out of it, from an address on.
 //
 // The contracts cite `specs/Buffer.antt`.
+#![tactic(auto)]
+
 ghost use Rattle.std.specs.Prelude.{◌≡◌};
 ghost use Rattle.unit_cursor.specs.Cursor.{buffer};
 ghost use Rattle.unit_buffer.specs.Buffer.{wrote, bytes_written, found_at, given_of, reads_on, ended_at, room_read, read_of};
@@ -13,14 +15,14 @@ use unit_cursor as cursor;
 use unit_cursor::Cursor;
 
 // How a write ended: the address behind the last byte, and the cursor.
-#[derive(Drop)]
+#[derive(Clone, Copy)]
 pub struct Written {
     pub address: usize,
     pub cursor: Cursor,
 }
 
 // How a read ended: the bytes given, the address then, and whether the parity of all was good.
-#[derive(Drop)]
+#[derive(Clone, Copy)]
 pub struct Read {
     pub count: usize,
     pub address: usize,
@@ -28,6 +30,7 @@ pub struct Read {
 }
 
 // Writes the bytes from an address on.
+#[tactic(auto, using(crate::proofs::Writing::write_one, crate::proofs::Writing::write_long, crate::proofs::Writing::write_all))]
 pub fn write_in(words: &mut [u16], cursor: Cursor, size: Size, at: usize, bytes: &[u8]) -> Written
     ensures { wrote result.address (buffer words.new result.cursor) ≡ bytes_written size at bytes.now (buffer words.old cursor) }
 {
@@ -90,6 +93,7 @@ fn ended(size: Size, count: usize, a: usize, word: u16) -> Read
 }
 
 // Reads from an address on into the room, and stops behind bad parity or, where it seeks the cursor, there.
+#[tactic(auto, using(crate::proofs::Reading::given_on, crate::proofs::Reading::given_last, crate::proofs::Reading::given_all, crate::proofs::Reading::read_on, crate::proofs::Reading::read_last, crate::proofs::Reading::read_all))]
 pub fn read_out(
     words: &[u16],
     cursor: Cursor,

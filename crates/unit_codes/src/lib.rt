@@ -1,6 +1,8 @@
 // The codes of commands: which command a code is, what is sent with it, and whether it is done while the buffer runs.
 //
 // The contracts cite `specs/Codes.antt`.
+#![tactic(auto)]
+
 ghost use Rattle.std.specs.Prelude.{◌≡◌, ◌+◌, ◌*◌, ◌<◌, get_or};
 ghost use Rattle.unit_codes.specs.Codes.{command_row, row_of, address_in, near_fit, start_fit, count_fit, sent_by};
 
@@ -9,7 +11,7 @@ use ground_setup as setup;
 use ground_setup::Size;
 
 // The twelve commands, and every code that is none.
-#[derive(Drop)]
+#[derive(Clone, Copy)]
 pub enum Command {
     TestIo,
     WriteBuffer,
@@ -27,7 +29,7 @@ pub enum Command {
 }
 
 // What is sent with a command.
-#[derive(Drop)]
+#[derive(Clone, Copy)]
 pub enum Takes {
     // No byte.
     Nothing,
@@ -40,7 +42,7 @@ pub enum Takes {
 }
 
 // A command, what is sent with it, and whether it is done while the buffer runs.
-#[derive(Drop)]
+#[derive(Clone, Copy)]
 pub struct CommandRow {
     pub command: Command,
     pub takes: Takes,
@@ -48,7 +50,7 @@ pub struct CommandRow {
 }
 
 // Whether what was sent with a command fits it.
-#[derive(Drop)]
+#[derive(Clone, Copy)]
 pub enum Sent {
     Fit,
     Refused(Refusal),
@@ -66,6 +68,7 @@ fn row(command: Command, takes: Takes, running: bool) -> CommandRow
 }
 
 // The row of a code and its modifiers.
+#[tactic(auto, unfolding(crate::specs::Codes::row_of))]
 pub fn row_of(code: u8) -> CommandRow
     ensures { result ≡ row_of code }
 {

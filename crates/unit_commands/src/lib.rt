@@ -1,6 +1,8 @@
 // The commands of the channel: each takes the words and the head of a unit, the bytes sent and the room lent, and answers beside the head.
 //
 // The contracts cite `specs/Commands.antt`.
+#![tactic(auto)]
+
 ghost use Rattle.std.specs.Prelude.{◌≡◌, List, ℕ};
 ghost use Rattle.ground_setup.specs.Setup.{wrap_of};
 ghost use Rattle.unit_head.specs.Head.{no_sense, with_sense, unit};
@@ -20,14 +22,14 @@ use unit_head::{Head, State};
 use unit_sense as sense;
 
 // What a command answers: its status and how many bytes it gave, or a refusal.
-#[derive(Drop)]
+#[derive(Clone, Copy)]
 pub enum Reply {
     Status(u8, usize),
     Refused(Refusal),
 }
 
 // The head after a command, and the answer.
-#[derive(Drop)]
+#[derive(Clone, Copy)]
 pub struct HeadAnswered {
     pub head: Head,
     pub answer: Reply,
@@ -277,6 +279,7 @@ fn is_allowed(while_running: bool, running: bool) -> bool
 }
 
 // A command that is not refused: waiting status first, then a reject, else it is done.
+#[tactic(auto, unfolding(crate::specs::Commands::tried_command))]
 fn tried(
     words: &mut [u16],
     head: Head,
@@ -299,6 +302,7 @@ fn tried(
 }
 
 // Gives a command to the unit: the bytes sent with it, and the room lent for what it reads.
+#[tactic(auto, unfolding(crate::specs::Commands::unit_command))]
 pub fn command(
     words: &mut [u16],
     head: Head,

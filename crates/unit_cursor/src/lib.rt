@@ -2,6 +2,8 @@
 // kept with the words by every store. The rest of the unit knows the cursor by these calls alone.
 //
 // The contracts cite `specs/Cursor.antt`; `proofs/Laws.antt` has the law of one store.
+#![tactic(auto)]
+
 ghost use Rattle.std.specs.Prelude.{◌≡◌, ◌≤◌};
 ghost use Rattle.ground_setup.specs.Setup.{size_of};
 ghost use Rattle.unit_cursor.specs.Cursor.{buffer, cursors, cursor_bit, cursors_in, recounted, stored, cursor_here, any_set, cursor_set, marked_at, other_of, bare_at, set_here, cleared_here};
@@ -12,7 +14,7 @@ use ground_setup::Size;
 use ground_words as words;
 
 // What a buffer holds of its cursor beside its words: the number of set cursor bits.
-#[derive(Drop)]
+#[derive(Clone, Copy)]
 pub struct Cursor {
     pub count: u16,
 }
@@ -25,6 +27,7 @@ fn bit_of(word: u16) -> u16
 }
 
 // The cursor of a buffer's words, counted.
+#[tactic(auto, unfolding(crate::specs::Cursor::cursors_in))]
 pub fn counted(words: &[u16], size: Size) -> Cursor
     ensures { result ≡ cursors (cursors_in (size_of size) words.now) }
 {
@@ -39,6 +42,7 @@ pub fn counted(words: &[u16], size: Size) -> Cursor
 }
 
 // The number of set cursor bits after a location's word gave way to another one.
+#[tactic(auto, unfolding(crate::specs::Cursor::recounted))]
 fn recount(count: u16, old: u16, new: u16) -> u16
     ensures { result ≡ recounted count old new }
 {
@@ -93,6 +97,7 @@ fn other(a: usize) -> usize
 }
 
 // Clears the cursor bit of a location, where it is set.
+#[tactic(auto, unfolding(crate::specs::Cursor::bare_at))]
 fn make_bare(words: &mut [u16], cursor: Cursor, a: usize) -> Cursor
     ensures { buffer words.new result ≡ bare_at a (buffer words.old cursor) }
 {
@@ -104,6 +109,7 @@ fn make_bare(words: &mut [u16], cursor: Cursor, a: usize) -> Cursor
 }
 
 // Sets the cursor here, and clears it at the other location of the pair.
+#[tactic(auto, unfolding(crate::specs::Cursor::set_here))]
 pub fn set_here(words: &mut [u16], cursor: Cursor, a: usize) -> Cursor
     ensures { buffer words.new result ≡ set_here a (buffer words.old cursor) }
 {
@@ -112,6 +118,7 @@ pub fn set_here(words: &mut [u16], cursor: Cursor, a: usize) -> Cursor
 }
 
 // Clears the cursor here.
+#[tactic(auto, unfolding(crate::specs::Cursor::cleared_here))]
 pub fn clear_here(words: &mut [u16], cursor: Cursor, a: usize) -> Cursor
     ensures { buffer words.new result ≡ cleared_here a (buffer words.old cursor) }
 {

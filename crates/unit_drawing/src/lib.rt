@@ -1,5 +1,7 @@
 // What one step of regeneration draws, by its motion: the item that a sight falls on, and the items drawn up to it, each by
 // a call of its own.
+#![tactic(auto)]
+
 ghost use Rattle.std.specs.Prelude.{◌≡◌, Bool, cond, false, ◌-◌, eqb};
 ghost use Rattle.unit_items.specs.Items.{items_in, items_of};
 ghost use Rattle.ground_setup.specs.Setup.{wrap_of, ahead_of};
@@ -13,13 +15,14 @@ use unit_motion as motion;
 use unit_motion::{Motion, Trace};
 
 // The item that a sight falls on: its address, and the beam at its end.
-#[derive(Drop)]
+#[derive(Clone, Copy)]
 pub enum Hit {
     Missed,
     At(usize, Beam),
 }
 
 // Whether a cursor that stands on a code is shown.
+#[tactic(auto, unfolding(crate::specs::Drawing::shows_cursor))]
 fn shows_cursor(code: u8) -> bool
     ensures { result ≡ shows_cursor code }
 {
@@ -62,6 +65,7 @@ fn hit_only(sight: u8, at: u16, end: Beam) -> Hit
 }
 
 // The hit on what coordinates leave, whether they left the screen or not.
+#[tactic(auto, unfolding(crate::specs::Drawing::hit_in))]
 fn hit_trace(trace: Trace, beam: Beam, to: Beam, at: u16, sight: u8) -> Hit
     ensures { (off : Bool) → result ≡ hit_in sight (trace_strokes trace beam to off at) }
 {
@@ -73,6 +77,7 @@ fn hit_trace(trace: Trace, beam: Beam, to: Beam, at: u16, sight: u8) -> Hit
 }
 
 // The hit on one code.
+#[tactic(auto, using(crate::proofs::Laws::hit_alone))]
 fn hit_code(size: CharacterSize, code: u8, beam: Beam, at: u16, sight: u8) -> Hit
     ensures { result ≡ hit_in sight (code_strokes size code false beam at) }
 {
@@ -84,6 +89,7 @@ fn hit_code(size: CharacterSize, code: u8, beam: Beam, at: u16, sight: u8) -> Hi
 }
 
 // The hit on two codes.
+#[tactic(auto, using(crate::proofs::Laws::hit_behind), unfolding(crate::specs::Drawing::codes_strokes))]
 fn hit_codes(size: CharacterSize, a: u8, b: u8, beam: Beam, at: u16, next: u16, sight: u8) -> Hit
     ensures { result ≡ hit_in sight (codes_strokes size a b false false beam at next) }
 {
@@ -100,6 +106,7 @@ fn hit_codes(size: CharacterSize, a: u8, b: u8, beam: Beam, at: u16, next: u16, 
 }
 
 // The item that a sight falls on.
+#[tactic(auto, unfolding(crate::specs::Drawing::strokes_of, crate::specs::Drawing::hit_in))]
 pub fn hit_of(motion: Motion, beam: Beam, size: Size, at: usize, sight: u8) -> Hit
     ensures { result ≡ hit_in sight (strokes_of motion beam false false size at) }
 {
@@ -145,6 +152,7 @@ pub fn vector(from: Beam, to: Beam, off: bool, at: u16) -> Item
 }
 
 // What coordinates draw.
+#[tactic(auto, using(crate::proofs::Laws::upto_one), unfolding(crate::specs::Drawing::upto))]
 fn trace_part(trace: Trace, beam: Beam, to: Beam, off: bool, at: u16, sight: u8) -> Part
     ensures { items_in result ≡ upto sight (trace_strokes trace beam to off at) }
 {
@@ -182,6 +190,7 @@ pub fn cursor(size: CharacterSize, code: u8, beam: Beam, at: u16) -> Item
 }
 
 // Whether a code's cursor is drawn.
+#[tactic(auto, unfolding(crate::specs::Drawing::has_cursor))]
 pub fn has_cursor(marked: bool, code: u8) -> bool
     ensures { result ≡ has_cursor marked code }
 {
@@ -189,6 +198,7 @@ pub fn has_cursor(marked: bool, code: u8) -> bool
 }
 
 // What a code draws.
+#[tactic(auto, unfolding(crate::specs::Drawing::code_strokes, crate::specs::Drawing::upto))]
 fn code_part(size: CharacterSize, code: u8, marked: bool, beam: Beam, at: u16, nth: u8) -> Part
     ensures { items_in result ≡ upto nth (code_strokes size code marked beam at) }
 {
@@ -213,6 +223,7 @@ fn code_part(size: CharacterSize, code: u8, marked: bool, beam: Beam, at: u16, n
 }
 
 // What two codes draw.
+#[tactic(auto, using(crate::proofs::Laws::upto_code), unfolding(unit_items::specs::Items::items_of, crate::specs::Drawing::codes_strokes))]
 fn codes_drawn(
     size: CharacterSize,
     a: u8,
@@ -250,6 +261,7 @@ fn codes_drawn(
 
 // What a step draws up to the item that the sight falls on, by its motion, where the beam stood, and the
 // cursor bits of A and A+1.
+#[tactic(auto, unfolding(unit_items::specs::Items::items_of, crate::specs::Drawing::strokes_of, crate::specs::Drawing::first_strokes, crate::specs::Drawing::upto))]
 pub fn drawn_of(
     motion: Motion,
     beam: Beam,

@@ -2,6 +2,8 @@
 // lent as a slice, and of this head.
 //
 // The contracts cite `specs/Head.antt`.
+#![tactic(auto)]
+
 ghost use Rattle.std.specs.Prelude.{◌≡◌};
 ghost use Rattle.unit_head.specs.Head.{fresh_head, with_pen, with_address, switched_head};
 
@@ -13,7 +15,7 @@ use unit_pen as pen;
 use unit_pen::Pen;
 
 // What a step of regeneration goes by: what the unit is built with, and what moves.
-#[derive(Drop)]
+#[derive(Clone, Copy)]
 pub struct State {
     pub setup: Setup,
     pub address: usize,
@@ -24,7 +26,7 @@ pub struct State {
 }
 
 // The sense bits that stand until they are reset, and whether Sense has given them.
-#[derive(Drop)]
+#[derive(Clone, Copy)]
 pub struct Sense {
     pub reject: bool,
     pub check: bool,
@@ -34,7 +36,7 @@ pub struct Sense {
 }
 
 // The head. A status of 0 is no status waiting.
-#[derive(Drop)]
+#[derive(Clone, Copy)]
 pub struct Head {
     pub state: State,
     pub status: u8,
@@ -90,6 +92,7 @@ pub fn with_address(mut state: State, address: usize) -> State
 }
 
 // The head after the pen's switch was closed or opened.
+#[tactic(auto, unfolding(crate::specs::Head::switched_head))]
 pub fn switch_head(mut head: Head, closed: bool) -> Head
     ensures { result ≡ switched_head head closed }
 {

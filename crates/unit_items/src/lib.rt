@@ -1,4 +1,6 @@
 // Drawn items: the four cases of one, what a step may draw, and the list that is lent for them, eight numbers to an item.
+#![tactic(auto)]
+
 ghost use Rattle.std.specs.Prelude.{◌≡◌, cond, [], ◌∷◌, ◌+◌, ◌-◌, ◌*◌, ◌≤◌, length, leb};
 ghost use Rattle.std.proofs.lemmas.List.Edits.{sets};
 ghost use Rattle.unit_items.specs.Items.{size_number, off_number, numbers_of, items_in, items_of, numbers, listed, listing};
@@ -6,7 +8,7 @@ ghost use Rattle.unit_items.specs.Items.{size_number, off_number, numbers_of, it
 use unit_beam::CharacterSize;
 
 // One thing drawn, with the address of its first byte; of a point and a vector, whether the step that drew it left the screen.
-#[derive(Drop)]
+#[derive(Clone, Copy)]
 pub enum Item {
     Point {
         x: u16,
@@ -39,7 +41,7 @@ pub enum Item {
 }
 
 // What coordinates draw, or one code.
-#[derive(Drop)]
+#[derive(Clone, Copy)]
 pub enum Part {
     Nothing,
     One(Item),
@@ -47,14 +49,14 @@ pub enum Part {
 }
 
 // What a step draws, in order: coordinates have the first part alone, two codes have one each.
-#[derive(Drop)]
+#[derive(Clone, Copy)]
 pub struct Drawn {
     pub first: Part,
     pub second: Part,
 }
 
 // Whether a list took the items: how many it then holds.
-#[derive(Drop)]
+#[derive(Clone, Copy)]
 pub enum Listing {
     Full,
     Held(usize),
@@ -162,6 +164,7 @@ fn has_room(held: usize, items: usize, room: usize) -> bool
 }
 
 // The items are put into the list behind those that it holds, where they all fit.
+#[tactic(auto, using(crate::proofs::Lists::two_runs, crate::proofs::Laws::none_listing, crate::proofs::Laws::none_listed), unfolding(crate::specs::Items::items_of, crate::specs::Items::listing, crate::specs::Items::listed))]
 pub fn list(out: &mut [u16], held: usize, drawn: Drawn) -> Listing
     ensures { (result ≡ listing (length out.old) held (items_of drawn)) × (out.new ≡ listed out.old held (items_of drawn)) }
 {
@@ -182,6 +185,7 @@ pub fn list(out: &mut [u16], held: usize, drawn: Drawn) -> Listing
 }
 
 // One item is put into the list behind those that it holds, where it fits.
+#[tactic(auto, unfolding(crate::specs::Items::listing, crate::specs::Items::listed))]
 fn list_item(out: &mut [u16], held: usize, item: Item) -> Listing
     ensures { (result ≡ listing (length out.old) held (item ∷ [])) × (out.new ≡ listed out.old held (item ∷ [])) }
 {
@@ -194,6 +198,7 @@ fn list_item(out: &mut [u16], held: usize, item: Item) -> Listing
 }
 
 // An item is put into the list behind those that it holds, if it is drawn, where it fits.
+#[tactic(auto, using(crate::proofs::Laws::none_listing, crate::proofs::Laws::none_listed))]
 pub fn list_where(out: &mut [u16], held: usize, drawn: bool, item: Item) -> Listing
     ensures { (result ≡ listing (length out.old) held (cond drawn (item ∷ []) [])) × (out.new ≡ listed out.old held (cond drawn (item ∷ []) [])) }
 {

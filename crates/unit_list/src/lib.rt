@@ -2,6 +2,8 @@
 // moved.
 //
 // The contracts cite `specs/List.antt`.
+#![tactic(auto)]
+
 ghost use Rattle.std.specs.Prelude.{◌≡◌};
 ghost use Rattle.unit_cursor.specs.Cursor.{buffer};
 ghost use Rattle.unit_head.specs.Head.{unit};
@@ -23,14 +25,14 @@ use unit_motion::{Motion, Moved};
 use unit_pen as pen;
 
 // What listing answers: whether the list took the items, or a refusal.
-#[derive(Drop)]
+#[derive(Clone, Copy)]
 pub enum ListReply {
     Listed(Listing),
     Refused(Refusal),
 }
 
 // What a step moves the beam by.
-#[derive(Drop)]
+#[derive(Clone, Copy)]
 pub enum Moves {
     Nothing,
     // An absolute coordinate.
@@ -42,6 +44,7 @@ pub enum Moves {
 }
 
 // What the step from a state draws.
+#[tactic(auto, unfolding(unit_step::specs::Step::items_drawn))]
 fn drawn_from(words: &[u16], cursor: Cursor, state: State, sight: u8) -> Drawn
     ensures { items_of result ≡ items_drawn (buffer words.now cursor) state sight }
 {
@@ -65,6 +68,7 @@ fn drawn_from(words: &[u16], cursor: Cursor, state: State, sight: u8) -> Drawn
 }
 
 // Lists what the next step of the unit draws with a sight, behind the items that the list holds.
+#[tactic(auto, using(unit_items::proofs::Laws::none_listing, unit_items::proofs::Laws::none_listed), unfolding(crate::specs::List::unit_list, crate::specs::List::next_items))]
 pub fn list(words: &[u16], head: Head, sight: u8, held: usize, out: &mut [u16]) -> ListReply
     ensures { list_ended result out.new ≡ unit_list (unit words.now head) sight held out.old }
 {
@@ -103,6 +107,7 @@ fn moves_by(motion: Motion) -> Moves
 }
 
 // What the next step of the unit moves the beam by.
+#[tactic(auto, unfolding(crate::specs::List::unit_moves))]
 pub fn next_move(words: &[u16], head: Head) -> Moves
     ensures { result ≡ unit_moves (unit words.now head) }
 {

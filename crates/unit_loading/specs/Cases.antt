@@ -1,8 +1,6 @@
 -- Worked cases of loading: the refusals of a dump, "1, 10, 9", and a unit that they leave as it was.
 use Rattle.std.specs.Prelude.{◌≡◌, [], ◌∷◌, replicate}
 use Rattle.std.proofs.Math.Path.{refl}
-use Rattle.ground_location.specs.Location.{proper_of}
-use Rattle.ground_setup.specs.Setup.{sized_of}
 use Rattle.unit_head.specs.Head.{DisplayUnit}
 use Rattle.unit_loading.specs.Loading.{LoadValues, load_end, all_proper, unit_load}
 

@@ -1,6 +1,8 @@
 // Loading a dump: a fresh unit with its words, or a refusal.
 //
 // The contracts cite `specs/Loading.antt`.
+#![tactic(auto)]
+
 ghost use Rattle.std.specs.Prelude.{◌≡◌, List, ℕ, min, ◌≤◌, length, replicate};
 ghost use Rattle.std.proofs.lemmas.List.Edits.{sets};
 ghost use Rattle.ground_location.specs.Location.{fresh_word};
@@ -16,20 +18,21 @@ use unit_head as head;
 use unit_head::Head;
 
 // How a call ended that answers no more.
-#[derive(Drop)]
+#[derive(Clone, Copy)]
 pub enum LoadReply {
     Done,
     Refused(Refusal),
 }
 
 // The head after a dump was loaded, and the answer.
-#[derive(Drop)]
+#[derive(Clone, Copy)]
 pub struct HeadLoaded {
     pub head: Head,
     pub answer: LoadReply,
 }
 
 // Whether no word has an unused bit set.
+#[tactic(auto, unfolding(crate::specs::Loading::all_proper))]
 fn all_proper(dump: &[u16]) -> bool
     ensures { result ≡ all_proper dump.now }
 {
@@ -44,6 +47,7 @@ fn all_proper(dump: &[u16]) -> bool
 }
 
 // Makes every word fresh.
+#[tactic(auto, using(crate::proofs::Dumps::filled_long, crate::proofs::Dumps::filled_all))]
 fn make_fresh(words: &mut [u16])
     ensures { words.new ≡ replicate (length words.old) fresh_word }
 {
@@ -62,6 +66,7 @@ fn smaller(a: usize, b: usize) -> usize
 }
 
 // Puts a dump into the first words.
+#[tactic(auto, using(crate::proofs::Dumps::put_one, crate::proofs::Dumps::put_all, crate::proofs::Dumps::put_full))]
 fn put_dump(words: &mut [u16], dump: &[u16])
     ensures { words.new ≡ sets words.old 0 dump.now }
 {
@@ -74,6 +79,7 @@ fn put_dump(words: &mut [u16], dump: &[u16])
 }
 
 // Makes a unit a fresh one with the words of a dump.
+#[tactic(auto, unfolding(crate::specs::Loading::dump_words))]
 fn load_words(words: &mut [u16], size: Size, dump: &[u16]) -> Head
     ensures { unit words.new result ≡ fresh_loaded (length words.old) size dump.now }
 {
@@ -116,6 +122,7 @@ fn load_by(words: &mut [u16], head: Head, size: Sized, dump: &[u16]) -> HeadLoad
 }
 
 // Loads a dump: a fresh unit of that size with these words, or a refusal and the unit as it was.
+#[tactic(auto, unfolding(crate::specs::Loading::unit_load))]
 pub fn load(words: &mut [u16], head: Head, size: usize, dump: &[u16]) -> HeadLoaded
     ensures { load_ended words.new result ≡ unit_load (unit words.old head) size dump.now }
 {

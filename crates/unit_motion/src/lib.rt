@@ -1,5 +1,7 @@
 // What one step of regeneration does with the beam: a look and a mode give its motion, and the motion where the beam stands
 // afterwards. Which codes draw a character is decided here too.
+#![tactic(auto)]
+
 ghost use Rattle.std.specs.Prelude.{◌≡◌};
 ghost use Rattle.unit_beam.specs.Beam.{stepped};
 ghost use Rattle.unit_motion.specs.Codes.{draws, after_code};
@@ -11,7 +13,7 @@ use unit_beam as beam;
 use unit_beam::{Beam, CharacterSize};
 
 // What coordinates leave on the screen.
-#[derive(Drop)]
+#[derive(Clone, Copy)]
 pub enum Trace {
     Blanked,
     Point,
@@ -19,7 +21,7 @@ pub enum Trace {
 }
 
 // What moves the beam to a place.
-#[derive(Drop)]
+#[derive(Clone, Copy)]
 pub enum Moved {
     // An absolute coordinate.
     Absolute,
@@ -28,7 +30,7 @@ pub enum Moved {
 }
 
 // What a step does with the beam.
-#[derive(Drop)]
+#[derive(Clone, Copy)]
 pub enum Motion {
     // Nothing.
     Still,
@@ -39,6 +41,7 @@ pub enum Motion {
 }
 
 // Whether a code draws a character.
+#[tactic(auto, unfolding(crate::specs::Codes::draws))]
 pub fn is_drawing(code: u8) -> bool
     ensures { result ≡ draws code }
 {
@@ -49,6 +52,7 @@ pub fn is_drawing(code: u8) -> bool
 }
 
 // The beam after a code.
+#[tactic(auto, unfolding(crate::specs::Codes::after_code))]
 pub fn after_code(size: CharacterSize, code: u8, beam: Beam) -> Beam
     ensures { result ≡ after_code size code beam }
 {
@@ -67,6 +71,7 @@ fn trace_by(blanked: bool, trace: Trace) -> Trace
 }
 
 // The motion of an increment.
+#[tactic(auto, unfolding(unit_beam::specs::Beam::shifted))]
 fn by_increment(trace: Trace, a: u8, b: u8, beam: Beam) -> Motion
     ensures { result ≡ by_increment trace a b beam }
 {
@@ -80,6 +85,7 @@ fn by_increment(trace: Trace, a: u8, b: u8, beam: Beam) -> Motion
 }
 
 // The motion of two bytes.
+#[tactic(auto, unfolding(crate::specs::Motion::two_of))]
 fn two(mode: Mode, a: u8, b: u8, beam: Beam) -> Motion
     ensures { result ≡ two_of mode a b beam }
 {
@@ -95,6 +101,7 @@ fn two(mode: Mode, a: u8, b: u8, beam: Beam) -> Motion
 }
 
 // The motion of four bytes.
+#[tactic(auto, unfolding(crate::specs::Motion::four_of))]
 fn four(mode: Mode, a: u8, b: u8, c: u8, d: u8) -> Motion
     ensures { result ≡ four_of mode a b c d }
 {
@@ -118,6 +125,7 @@ fn four(mode: Mode, a: u8, b: u8, c: u8, d: u8) -> Motion
 }
 
 // What a step does with the beam, by its look and its mode.
+#[tactic(auto, unfolding(crate::specs::Motion::motion_of))]
 pub fn motion_of(look: Look, mode: Mode, beam: Beam) -> Motion
     ensures { result ≡ motion_of look mode beam }
 {
@@ -147,6 +155,7 @@ pub fn is_off(moved: Moved) -> bool
 }
 
 // The beam after a step.
+#[tactic(auto, unfolding(crate::specs::Motion::beam_after))]
 pub fn beam_after(motion: Motion, beam: Beam) -> Beam
     ensures { result ≡ beam_after motion beam }
 {
@@ -165,6 +174,7 @@ pub fn after_codes(size: CharacterSize, a: u8, b: u8, beam: Beam) -> Beam
 }
 
 // The beam after an increment.
+#[tactic(auto, unfolding(unit_beam::specs::Beam::shifted))]
 fn stepped_to(beam: Beam, a: u8, b: u8) -> Beam
     ensures { result ≡ stepped beam a b }
 {
@@ -174,6 +184,7 @@ fn stepped_to(beam: Beam, a: u8, b: u8) -> Beam
 }
 
 // The beam after a mode's data: the four bytes of point and vector mode, or the first two.
+#[tactic(auto, unfolding(crate::specs::Motion::beam_after, crate::specs::Motion::two_of, crate::specs::Motion::four_of))]
 pub fn moved_by(mode: Mode, a: u8, b: u8, c: u8, d: u8, beam: Beam) -> Beam
     ensures { result ≡ beam_after (data_motion mode a b c d beam) beam }
 {

@@ -1,10 +1,12 @@
 // The light pen: its three modes, its switch, arming, and what a detect and a transfer on no detect leave behind.
+#![tactic(auto)]
+
 ghost use Rattle.std.specs.Prelude.{◌≡◌};
 ghost use Rattle.unit_pen.specs.Pen.{ordered, armed_by, timed, turned, switched, detects, seen_of, spent_pen, seen_pen, detected, transfers, transferred};
 
 use ground_orders::PenMode;
 
-#[derive(Drop)]
+#[derive(Clone, Copy)]
 pub struct Pen {
     pub mode: PenMode,
     // The switch is closed.
@@ -18,6 +20,7 @@ pub struct Pen {
 }
 
 // The pen after a light-pen mode order.
+#[tactic(auto, unfolding(crate::specs::Pen::ordered))]
 pub fn after_order(pen: Pen, mode: PenMode) -> Pen
     ensures { result ≡ ordered pen mode }
 {
@@ -58,6 +61,7 @@ fn armed_by(pen: Pen) -> bool
 }
 
 // The pen after Start Regeneration Timer.
+#[tactic(auto, unfolding(crate::specs::Pen::timed))]
 pub fn after_timer(pen: Pen) -> Pen
     ensures { result ≡ timed pen }
 {
@@ -85,6 +89,7 @@ fn turned_to(pen: Pen, closed: bool) -> Pen
 }
 
 // The pen after its switch was closed or opened.
+#[tactic(auto, unfolding(crate::specs::Pen::switched))]
 pub fn after_switch(pen: Pen, closed: bool) -> Pen
     ensures { result ≡ switched pen closed }
 {
@@ -104,6 +109,7 @@ pub fn after_switch(pen: Pen, closed: bool) -> Pen
 }
 
 // Whether a sight is a detect.
+#[tactic(auto, unfolding(crate::specs::Pen::detects))]
 pub fn is_detecting(pen: Pen) -> bool
     ensures { result ≡ detects pen }
 {
@@ -116,6 +122,7 @@ pub fn is_detecting(pen: Pen) -> bool
 }
 
 // What the pen sees of a sight.
+#[tactic(auto, unfolding(crate::specs::Pen::seen_of))]
 pub fn seen_of(pen: Pen, sight: u8) -> u8
     ensures { result ≡ seen_of pen sight }
 {
@@ -123,6 +130,7 @@ pub fn seen_of(pen: Pen, sight: u8) -> u8
 }
 
 // The pen after a detect.
+#[tactic(auto, unfolding(crate::specs::Pen::detected))]
 pub fn after_detect(pen: Pen) -> Pen
     ensures { result ≡ detected pen }
 {
@@ -135,6 +143,7 @@ pub fn after_detect(pen: Pen) -> Pen
 }
 
 // Whether Transfer On No Detect goes.
+#[tactic(auto, unfolding(crate::specs::Pen::transfers))]
 pub fn is_transferring(pen: Pen) -> bool
     ensures { result ≡ transfers pen }
 {
@@ -147,6 +156,7 @@ pub fn is_transferring(pen: Pen) -> bool
 }
 
 // The pen after a Transfer On No Detect that went.
+#[tactic(auto, unfolding(crate::specs::Pen::transferred))]
 pub fn after_transfer(pen: Pen) -> Pen
     ensures { result ≡ transferred pen }
 {
@@ -159,6 +169,7 @@ pub fn after_transfer(pen: Pen) -> Pen
 }
 
 // The closure has had its detect or its transfer.
+#[tactic(auto, unfolding(crate::specs::Pen::spent_pen))]
 fn spent_pen(pen: Pen) -> Pen
     ensures { result ≡ spent_pen pen }
 {
@@ -173,6 +184,7 @@ fn spent_pen(pen: Pen) -> Pen
 }
 
 // A detect has come in no-switch mode.
+#[tactic(auto, unfolding(crate::specs::Pen::seen_pen))]
 fn seen_pen(pen: Pen) -> Pen
     ensures { result ≡ seen_pen pen }
 {

@@ -1,6 +1,8 @@
 // Plain data: what stands ahead where no order begins and nothing is wrong.
 //
 // The contracts cite `specs/Plain.antt`; `proofs/Laws.antt` says what a step makes of them.
+#![tactic(auto)]
+
 ghost use Rattle.std.specs.Prelude.{◌≡◌, ◌≤◌, min, length};
 ghost use Rattle.unit_plain.specs.Plain.{clear_below, plain_pair, plain_data, span_of};
 

@@ -1,6 +1,8 @@
 // Sense data: the bits that stand, the four bytes that show them, and what a stop adds to them.
 //
 // The contracts cite `specs/Sense.antt`.
+#![tactic(auto)]
+
 ghost use Rattle.std.specs.Prelude.{◌≡◌, cond, not, ◌&&◌, ◌||◌, ◌≤◌, ◌<◌, ltb, set};
 ghost use Rattle.unit_sense.specs.Sense.{sensing, sense_given, sense_joined, flagged, is_character, sense_zero, sense_one, sense_address, four_in, four_count, sense_in};
 
@@ -37,6 +39,7 @@ fn either(a: bool, b: bool) -> bool
 }
 
 // A stop's new bits with the standing ones.
+#[tactic(auto, unfolding(crate::specs::Sense::sense_joined))]
 pub fn joined(sense: Sense, check: bool, detect: bool, ended: bool) -> Sense
     ensures { result ≡ sense_joined sense check detect ended }
 {

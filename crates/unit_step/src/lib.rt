@@ -1,6 +1,8 @@
 // One step of a unit that runs: what it makes of the state, by its own look at what stands there.
 //
 // The contracts cite `specs/Step.antt`; `specs/Run.antt` has several steps, `proofs/Laws.antt` what holds of them.
+#![tactic(auto)]
+
 ghost use Rattle.std.specs.Prelude.{◌≡◌};
 ghost use Rattle.unit_step.specs.Run.{is_idle};
 ghost use Rattle.unit_step.specs.Step.{state_at, penned, beamed, stopped, struck, data_to, either_by, step_to, hit_by, step_from};
@@ -18,7 +20,7 @@ use unit_pen as pen;
 use unit_pen::Pen;
 
 // Why a step stops the unit.
-#[derive(Drop)]
+#[derive(Clone, Copy)]
 pub enum Stop {
     // A fault.
     Fault(Fault),
@@ -31,7 +33,7 @@ pub enum Stop {
 }
 
 // What a step makes of the state.
-#[derive(Drop)]
+#[derive(Clone, Copy)]
 pub enum Stepped {
     Goes(State),
     Stops(State, Stop),
@@ -171,6 +173,7 @@ fn hit_at(state: State, motion: Motion, seen: u8) -> Hit
 }
 
 // The step from a state: what stands there, and what the pen is shown.
+#[tactic(auto, unfolding(crate::specs::Step::step_from, crate::specs::Step::step_over))]
 pub fn step_from(words: &[u16], state: State, sight: u8) -> Stepped
     ensures { result ≡ step_from words.now state sight }
 {

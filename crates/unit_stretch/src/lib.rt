@@ -2,6 +2,8 @@
 // the end of the buffer.
 //
 // The contracts cite `specs/Stretch.antt`.
+#![tactic(auto)]
+
 ghost use Rattle.std.specs.Prelude.{◌≡◌, true, false};
 ghost use Rattle.unit_step.specs.Run.{is_idle};
 ghost use Rattle.unit_stretch.specs.Stretch.{Reaches};
@@ -15,13 +17,14 @@ use unit_plain as plain;
 use unit_step as step;
 
 // How many steps a stretch has, and the state behind it.
-#[derive(Drop)]
+#[derive(Clone, Copy)]
 pub struct Stretch {
     pub steps: usize,
     pub state: State,
 }
 
 // Goes over data of idle mode.
+#[tactic(auto, using(crate::proofs::Laws::covered_none, crate::proofs::Laws::covered_reaches, crate::proofs::Laws::covered_passed))]
 fn pass(words: &[u16], start: State, sights: &[u8]) -> Stretch
     requires { is_idle start.mode ≡ true }
     ensures { Reaches words.now sights.now start result }
@@ -49,6 +52,7 @@ fn pass(words: &[u16], start: State, sights: &[u8]) -> Stretch
 }
 
 // Goes over data that move the beam.
+#[tactic(auto, using(crate::proofs::Laws::covered_none, crate::proofs::Laws::covered_reaches, crate::proofs::Laws::covered_moved))]
 fn move_over(words: &[u16], start: State, sights: &[u8]) -> Stretch
     requires { is_idle start.mode ≡ false }
     ensures { Reaches words.now sights.now start result }
