@@ -1,6 +1,8 @@
 // The field of a location: whether it stands among characters, in which mode, and whether they are protected.
 //
 // The contracts cite `specs/Fields.antt`.
+#![tactic(auto)]
+
 ghost use Rattle.std.specs.Prelude.{◌≡◌};
 ghost use Rattle.typing_fields.specs.Fields.{protected_by, mode_field, follows_field, found_field, code_field, field_by, field_of};
 
@@ -12,7 +14,7 @@ use typing_seek::Spot;
 use typing_signs as signs;
 
 // The field of a location.
-#[derive(Drop)]
+#[derive(Clone, Copy)]
 pub enum Field {
     // No field of characters.
     Outside,
@@ -71,6 +73,7 @@ fn found_field(shut: bool, found: Found) -> Field
 }
 
 // The field behind an order of a code.
+#[tactic(auto, unfolding(crate::specs::Fields::code_field))]
 pub fn code_field(code: u8) -> Field
     ensures { result ≡ code_field code }
 {
@@ -88,6 +91,7 @@ fn field_by(words: &[u16], size: Size, spot: Spot) -> Field
 }
 
 // The field of a location.
+#[tactic(auto, unfolding(crate::specs::Fields::field_of))]
 pub fn field_of(words: &[u16], size: Size, at: usize) -> Field
     ensures { result ≡ field_of words.now size at }
 {

@@ -1,6 +1,8 @@
 // The search of the jump key: regeneration is followed on a copy of the state to the next unprotected characters.
 //
 // The contracts cite `specs/Jump.antt`.
+#![tactic(auto)]
+
 ghost use Rattle.std.specs.Prelude.{◌≡◌, not, ◌&&◌};
 ghost use Rattle.unit_step.specs.Step.{state_at};
 ghost use Rattle.typing_signs.specs.Signs.{code_at, order_at};
@@ -21,7 +23,7 @@ use unit_step as step;
 use unit_step::Stepped;
 
 // What a step of the search makes of the state: the search's end, or the state to go on with.
-#[derive(Drop)]
+#[derive(Clone, Copy)]
 pub enum Hop {
     Ends(Spot),
     On(State),
@@ -103,6 +105,7 @@ fn hop_by(next: Stepped, landing: Spot) -> Hop
 }
 
 // A step of the search.
+#[tactic(auto, unfolding(crate::specs::Jump::hop_of))]
 fn hop_of(words: &[u16], state: State) -> Hop
     ensures { result ≡ hop_of words.now state }
 {
@@ -117,6 +120,7 @@ fn hop_of(words: &[u16], state: State) -> Hop
 }
 
 // A search of at most n steps.
+#[tactic(auto, using(crate::proofs::Turns::jump_none))]
 fn jump_from(words: &[u16], n: usize, start: State) -> Spot
     ensures { result ≡ jump_from words.now n start }
 {
@@ -161,6 +165,7 @@ fn start_at(state: State, address: usize, mode: Mode) -> State
 }
 
 // Where jump takes a cursor: nowhere where it stays.
+#[tactic(auto, unfolding(crate::specs::Jump::jump_of))]
 pub fn jump_to(words: &[u16], state: State, cursor: usize, mode: Mode) -> Spot
     ensures { result ≡ jump_of words.now state cursor mode }
 {

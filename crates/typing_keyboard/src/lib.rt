@@ -1,6 +1,8 @@
 // The keys of the alphameric keyboard by their numbers, and what each does at the cursor.
 //
 // The contracts cite `specs/Acts.antt`.
+#![tactic(auto)]
+
 ghost use Rattle.std.specs.Prelude.{◌≡◌, ◌||◌};
 ghost use Rattle.typing_keyboard.specs.Acts.{within, letter_of, sign_of, coded_of, numbered_of, move_by, store_by, character_of, press_in, act_by, act_of};
 
@@ -16,7 +18,7 @@ use typing_signs as signs;
 use unit_head::State;
 
 // A key.
-#[derive(Drop)]
+#[derive(Clone, Copy)]
 pub enum Press {
     // A character of this code.
     Character(u8),
@@ -26,14 +28,14 @@ pub enum Press {
 }
 
 // A number taken as a key.
-#[derive(Drop)]
+#[derive(Clone, Copy)]
 pub enum Numbered {
     Of(Press),
     Refused(Refusal),
 }
 
 // What a key does at the cursor.
-#[derive(Drop)]
+#[derive(Clone, Copy)]
 pub enum Act {
     // Nothing changes.
     Stay,
@@ -58,6 +60,7 @@ fn either(a: bool, b: bool) -> bool
 }
 
 // Whether a code is a letter or a digit.
+#[tactic(auto, unfolding(crate::specs::Acts::letter_of))]
 fn is_letter(n: u8) -> bool
     ensures { result ≡ letter_of n }
 {
@@ -69,6 +72,7 @@ fn is_letter(n: u8) -> bool
 }
 
 // Whether a code is a sign, the blank or null.
+#[tactic(auto, unfolding(crate::specs::Acts::sign_of))]
 fn is_sign(n: u8) -> bool
     ensures { result ≡ sign_of n }
 {
@@ -95,6 +99,7 @@ fn coded(n: u8) -> Numbered
 }
 
 // The key of a number.
+#[tactic(auto, unfolding(crate::specs::Acts::numbered_of))]
 pub fn key_numbered(number: u16) -> Numbered
     ensures { result ≡ numbered_of number }
 {
@@ -134,6 +139,7 @@ fn store_by(code: u8, at: usize, spot: Spot) -> Act
 }
 
 // A character key at a location.
+#[tactic(auto, unfolding(crate::specs::Acts::character_of))]
 fn character(words: &[u16], state: State, at: usize, code: u8) -> Act
     ensures { result ≡ character_of words.now state at code }
 {
@@ -178,6 +184,7 @@ fn act_by(words: &[u16], state: State, at: usize, press: Press, field: Field) ->
 }
 
 // What a key does at a cursor.
+#[tactic(auto, unfolding(crate::specs::Acts::act_of))]
 pub fn act_of(words: &[u16], state: State, at: usize, press: Press) -> Act
     ensures { result ≡ act_of words.now state at press }
 {

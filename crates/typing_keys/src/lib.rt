@@ -1,6 +1,8 @@
 // Typing at the cursor: a key of the alphameric keyboard takes the words and the head of a unit, and answers beside the head.
 //
 // The contracts cite `specs/Keys.antt`.
+#![tactic(auto)]
+
 ghost use Rattle.std.specs.Prelude.{◌≡◌, List, ℕ};
 ghost use Rattle.unit_cursor.specs.Cursor.{buffer};
 ghost use Rattle.unit_head.specs.Head.{unit, with_cursor};
@@ -19,7 +21,7 @@ use unit_cursor::Cursor;
 use unit_head::Head;
 
 // What a key answers.
-#[derive(Drop)]
+#[derive(Clone, Copy)]
 pub enum KeyReply {
     // The number is no key's.
     Refused(Refusal),
@@ -30,13 +32,14 @@ pub enum KeyReply {
 }
 
 // The head after a key, and the answer.
-#[derive(Drop)]
+#[derive(Clone, Copy)]
 pub struct HeadKeyed {
     pub head: Head,
     pub answer: KeyReply,
 }
 
 // Moves the cursor from one location to another.
+#[tactic(auto, unfolding(crate::specs::Keys::cursor_moved))]
 fn move_cursor(words: &mut [u16], cursor: Cursor, size: Size, at: usize, to: usize) -> Cursor
     ensures { buffer words.new result ≡ cursor_moved size at to (buffer words.old cursor) }
 {
@@ -45,6 +48,7 @@ fn move_cursor(words: &mut [u16], cursor: Cursor, size: Size, at: usize, to: usi
 }
 
 // Stores a character and moves the cursor on.
+#[tactic(auto, unfolding(crate::specs::Keys::character_stored))]
 fn store_character(
     words: &mut [u16],
     cursor: Cursor,
@@ -125,6 +129,7 @@ fn sought(words: &[u16], head: Head) -> Spot
 }
 
 // A key of this number on the alphameric keyboard.
+#[tactic(auto, unfolding(crate::specs::Keys::unit_key))]
 pub fn key(words: &mut [u16], head: Head, number: u16) -> HeadKeyed
     ensures { key_ended words.new result ≡ unit_key (unit words.old head) number }
 {

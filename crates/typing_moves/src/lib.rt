@@ -1,6 +1,8 @@
 // The moves of the cursor by advance and backspace.
 //
 // The contracts cite `specs/Moves.antt`.
+#![tactic(auto)]
+
 ghost use Rattle.std.specs.Prelude.{◌≡◌};
 ghost use Rattle.typing_moves.specs.Moves.{free_of, move_of, onward_of, rest_from, goes_to};
 
@@ -10,7 +12,7 @@ use typing_seek::Spot;
 use typing_signs as signs;
 
 // Which way the cursor goes.
-#[derive(Drop)]
+#[derive(Clone, Copy)]
 pub enum Direction {
     // By advance.
     Forward,
@@ -59,6 +61,7 @@ fn onward(words: &[u16], size: Size, direction: Direction, at: usize) -> Spot
 }
 
 // Where a cursor that has come to a location rests, in at most n moves.
+#[tactic(auto, using(crate::proofs::Turns::rest_none))]
 fn rest(words: &[u16], size: Size, direction: Direction, n: usize, at: usize) -> Spot
     ensures { result ≡ rest_from words.now size direction n at }
 {
@@ -79,6 +82,7 @@ fn rest(words: &[u16], size: Size, direction: Direction, n: usize, at: usize) ->
 }
 
 // Where the cursor goes by advance or backspace: nowhere where it stays.
+#[tactic(auto, unfolding(crate::specs::Moves::goes_to))]
 pub fn go(words: &[u16], size: Size, direction: Direction, at: usize) -> Spot
     ensures { result ≡ goes_to words.now size direction at }
 {

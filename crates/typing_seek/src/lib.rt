@@ -1,6 +1,8 @@
 // The searches through a buffer's words that the keyboard makes: for the cursor, and for the order of a field.
 //
 // The contracts cite `specs/Seek.antt`.
+#![tactic(auto)]
+
 ghost use Rattle.std.specs.Prelude.{◌≡◌};
 ghost use Rattle.unit_cursor.specs.Cursor.{buffer};
 ghost use Rattle.typing_seek.specs.Seek.{cursor_in, order_from, order_behind};
@@ -12,13 +14,14 @@ use unit_cursor as cursor;
 use unit_cursor::Cursor;
 
 // A location that was looked for.
-#[derive(Drop)]
+#[derive(Clone, Copy)]
 pub enum Spot {
     At(usize),
     Nowhere,
 }
 
 // The cursor: the lowest location that it is at.
+#[tactic(auto, using(crate::proofs::Turns::cursor_one, crate::proofs::Turns::cursor_none), unfolding(crate::specs::Seek::cursor_in))]
 pub fn cursor_in(words: &[u16], cursor: Cursor, size: Size) -> Spot
     ensures { result ≡ cursor_in (buffer words.now cursor) size }
 {
@@ -34,6 +37,7 @@ pub fn cursor_in(words: &[u16], cursor: Cursor, size: Size) -> Spot
 }
 
 // The first order among n addresses, from one on back by two.
+#[tactic(auto, using(crate::proofs::Turns::order_one, crate::proofs::Turns::order_none))]
 fn order_from(words: &[u16], size: Size, n: usize, at: usize) -> Spot
     ensures { result ≡ order_from words.now size n at }
 {
@@ -50,6 +54,7 @@ fn order_from(words: &[u16], size: Size, n: usize, at: usize) -> Spot
 }
 
 // The order that a location stands behind.
+#[tactic(auto, unfolding(crate::specs::Seek::order_behind))]
 pub fn order_behind(words: &[u16], size: Size, at: usize) -> Spot
     ensures { result ≡ order_behind words.now size at }
 {

@@ -1,6 +1,8 @@
 // What stands at a location, as the keyboard sees it: an order and its code, a new line; and the addresses around it.
 //
 // The contracts cite `specs/Signs.antt`.
+#![tactic(auto)]
+
 ghost use Rattle.std.specs.Prelude.{◌≡◌};
 ghost use Rattle.typing_signs.specs.Signs.{word_at, byte_at, code_at, back_of, even_of, order_at, line_at};
 
@@ -17,6 +19,7 @@ fn word_at(words: &[u16], size: Size, at: usize) -> u16
 }
 
 // The data at an address.
+#[tactic(auto, unfolding(crate::specs::Signs::byte_at))]
 fn byte_at(words: &[u16], size: Size, at: usize) -> u8
     ensures { result ≡ byte_at words.now size at }
 {
@@ -24,6 +27,7 @@ fn byte_at(words: &[u16], size: Size, at: usize) -> u8
 }
 
 // The code of an order at an address.
+#[tactic(auto, unfolding(crate::specs::Signs::code_at))]
 pub fn code_at(words: &[u16], size: Size, at: usize) -> u8
     ensures { result ≡ code_at words.now size at }
 {
@@ -48,6 +52,7 @@ pub fn even(size: Size, at: usize) -> usize
 }
 
 // Whether an order begins at an address.
+#[tactic(auto, unfolding(crate::specs::Signs::order_at))]
 pub fn order_at(words: &[u16], size: Size, at: usize) -> bool
     ensures { result ≡ order_at words.now size at }
 {
@@ -59,6 +64,7 @@ pub fn order_at(words: &[u16], size: Size, at: usize) -> bool
 }
 
 // Whether an address holds a new line.
+#[tactic(auto, unfolding(crate::specs::Signs::line_at))]
 pub fn line_at(words: &[u16], size: Size, at: usize) -> bool
     ensures { result ≡ line_at words.now size at }
 {
