@@ -2,6 +2,8 @@
 // slice and the head.
 //
 // The contracts cite `specs/Device.antt`.
+#![tactic(auto)]
+
 ghost use Rattle.std.specs.Prelude.{◌≡◌, ℕ, ◌<◌, get_or};
 ghost use Rattle.ground_location.specs.Location.{fresh_word};
 ghost use Rattle.unit_head.specs.Head.{unit};
@@ -30,35 +32,35 @@ use unit_loading as loading;
 use unit_loading::{HeadLoaded, LoadReply};
 
 // The whole unit: the words of its buffer; and address, mode, beam, pen, status, sense and cursor in its head.
-#[derive(Drop)]
+#[derive(Clone, Copy)]
 pub struct Device {
     pub words: [u16; 8192],
     pub head: Head,
 }
 
 // A device, and the answer of loading it.
-#[derive(Drop)]
+#[derive(Clone, Copy)]
 pub struct Loaded {
     pub device: Device,
     pub answer: LoadReply,
 }
 
 // The device after a command, and the answer.
-#[derive(Drop)]
+#[derive(Clone, Copy)]
 pub struct Answered {
     pub device: Device,
     pub answer: Reply,
 }
 
 // The device after advancing, and the answer.
-#[derive(Drop)]
+#[derive(Clone, Copy)]
 pub struct Advanced {
     pub device: Device,
     pub answer: AdvanceReply,
 }
 
 // The device after a key, and the answer.
-#[derive(Drop)]
+#[derive(Clone, Copy)]
 pub struct Keyed {
     pub device: Device,
     pub answer: KeyReply,
