@@ -1,6 +1,8 @@
 // The places of a buffer by their numbers.
 //
 // The contracts cite the definitions of crate `validator_walks`.
+#![tactic(auto)]
+
 ghost use Rattle.std.specs.Prelude.{◌≡◌, ◌<◌, ◌≤◌};
 ghost use Rattle.ground_setup.specs.Setup.{Inside};
 ghost use Rattle.validator_walks.specs.Places.{place, mode_number, half_of, places_of, number_of, address_of};

@@ -3,6 +3,8 @@
 // Behind its bits the store holds two stacks of places' numbers that grow towards each other: the level being gone through and the
 // next. `specs/Search.antt` says what the search answers for an image; `specs/Invariant.antt`, for its proof, has the stacks and what holds in
 // the midst of a level, over any graph.
+#![tactic(auto)]
+
 ghost use Rattle.std.specs.Prelude.{◌≡◌, true, List, ℕ, ◌+◌, ◌≤◌, ◌<◌, length, drop};
 ghost use Rattle.validator_walks.specs.Places.{places_of};
 ghost use Rattle.validator_store.specs.Layout.{base_of, cap_of, top_of};
@@ -17,7 +19,7 @@ use validator_store as store;
 use validator_walks::{Answer, Way};
 
 // What a search gives.
-#[derive(Drop)]
+#[derive(Clone, Copy)]
 pub enum Searched {
     // The answer on all walks.
     Found(Answer),
@@ -26,7 +28,7 @@ pub enum Searched {
 }
 
 // What going on from one place gives.
-#[derive(Drop)]
+#[derive(Clone, Copy)]
 enum Expanded {
     // The entries of the next level.
     Grew(usize),
@@ -35,7 +37,7 @@ enum Expanded {
 }
 
 // What is found in a level: the entries of the next one, and the key of the lowest fault.
-#[derive(Drop)]
+#[derive(Clone, Copy)]
 struct Gathered {
     pub t: usize,
     pub key: usize,

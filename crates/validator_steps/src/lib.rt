@@ -1,6 +1,8 @@
 // The step from a place of an image, by the places' numbers.
 //
 // The contracts cite the definitions of crate `validator_walks`.
+#![tactic(auto)]
+
 ghost use Rattle.std.specs.Prelude.{◌≡◌, ◌/◌};
 ghost use Rattle.validator_walks.specs.Places.{half_of, mode_of};
 ghost use Rattle.validator_walks.specs.Steps.{step_by, way_by, way_of};
@@ -59,6 +61,7 @@ fn way_by(size: Size, mode: Mode, found: Look) -> Way
 }
 
 // Where the step from a place of an image leads to.
+#[tactic(auto, unfolding(validator_walks::specs::Steps::way_of, validator_walks::specs::Steps::step_of))]
 pub fn way_at(image: &[u8], setup: Setup, number: usize) -> Way
     ensures { result ≡ way_of image.now setup number }
 {

@@ -1,18 +1,12 @@
 -- The working store's layout, over the size of the buffer.
-use Rattle.std.specs.Prelude.{◌≡◌, refl, ℕ, ◌+◌, ◌*◌, ◌/◌, max}
+use Rattle.std.specs.Prelude.{ℕ, ◌+◌, ◌*◌, ◌/◌, max}
 use Rattle.ground_setup.specs.Setup.{size_of}
 use Rattle.ground_setup.specs.declared.Size.{Size}
-use Rattle.ground_setup.specs.declared.Size.TheVariants.{K4, K8}
 use Rattle.validator_walks.specs.Places.{half_of, places_of}
 
 -- 01, "The validator": "The working store is 32,768 bytes"; three bytes for each location are 98,304 for 32,768 locations (02, C-18)
 abbrev pub room_of : Size → ℕ
 room_of size = max 32768 (3 * size_of size)
-
--- 01's for the sizes here
-pub room_here : (size : Size) → room_of size ≡ 32768
-room_here K4 = refl
-room_here K8 = refl
 
 -- both ways of a step lie below this number: the idle places come first
 abbrev pub twos_of : Size → ℕ

@@ -2,6 +2,8 @@
 // an entry outside the store reads as 0, and none is stored there.
 //
 // `specs/Layout.antt` has the layout's numbers, `specs/Store.antt` bits and entries, `proofs/Bits.antt` their laws.
+#![tactic(auto)]
+
 ghost use Rattle.std.specs.Prelude.{◌≡◌, ◌+◌, ◌%◌, ◌<◌, min};
 ghost use Rattle.validator_store.specs.Layout.{room_of, base_of, cap_of};
 ghost use Rattle.validator_store.specs.Store.{bit, bit_of, marked, entry_at, saved, cleared};
@@ -36,6 +38,7 @@ pub fn last_of(size: Size) -> usize
 }
 
 // The bit of place p in its byte.
+#[tactic(auto, unfolding(crate::specs::Store::bit))]
 fn bit_of(b: u8, p: usize) -> u8
     ensures { (result ≡ bit (p % 8) b) × (result < 2) }
 {
@@ -43,6 +46,7 @@ fn bit_of(b: u8, p: usize) -> u8
 }
 
 // Whether place p is marked, 1 or 0.
+#[tactic(auto, using(crate::proofs::Bits::outside_bit), unfolding(crate::specs::Store::bit_of))]
 pub fn seen(store: &[u8], p: usize) -> u8
     ensures { result ≡ bit_of store.now p }
 {
@@ -54,6 +58,7 @@ pub fn seen(store: &[u8], p: usize) -> u8
 }
 
 // Place p is marked.
+#[tactic(auto, using(crate::proofs::Bits::missing_lt, crate::proofs::Bits::set_missing, crate::proofs::Bits::outside_marked))]
 pub fn mark(store: &mut [u8], p: usize)
     ensures { store.new ≡ marked store.old p }
 {
@@ -73,6 +78,7 @@ fn wide(b: u8) -> usize
 }
 
 // The entry at byte i.
+#[tactic(auto, unfolding(crate::specs::Store::entry_at))]
 pub fn load(store: &[u8], i: usize) -> usize
     ensures { result ≡ entry_at store.now i }
 {
@@ -89,6 +95,7 @@ pub fn load(store: &[u8], i: usize) -> usize
 }
 
 // The entry at byte i becomes v.
+#[tactic(auto, unfolding(crate::specs::Store::saved))]
 pub fn save(store: &mut [u8], i: usize, v: usize)
     ensures { store.new ≡ saved store.old i v }
 {

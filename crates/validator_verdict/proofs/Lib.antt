@@ -2,3 +2,4 @@
 pub mod Judging
 pub mod Unique
 pub mod Tells
+pub mod Cases

@@ -1,7 +1,7 @@
 -- Which refusal an image meets first, as one table over the definitions (01: "Tried .. 1 to 5 for images").
-use Rattle.std.specs.Prelude.{◌≡◌, refl, List, [], ◌∷◌, map, ℕ}
+use Rattle.std.specs.Prelude.{List, [], ◌∷◌, ℕ}
 use Rattle.ground_setup.specs.declared.Size.TheVariants.{K4, K8}
-use Rattle.validator_verdict.specs.Verdict.{Tried, tried_of}
+use Rattle.validator_verdict.specs.Verdict.{Tried}
 
 -- a size, the image's length, the start, the store's length, and what they are tried to
 pub record TriedCase : Type 0 where
@@ -29,7 +29,3 @@ tried_cases =
     ∷ tried_case 8192 8192 8190 32768 (Tried.fine K8)
     ∷ tried_case 8192 0 4096 32769 (Tried.fine K8)
     ∷ []
-
--- each case of the table holds
-pub tried_cases_lem : map (λ (c : TriedCase). tried_of c.size c.long c.start c.room) tried_cases ≡ map (λ (c : TriedCase). c.tried) tried_cases
-tried_cases_lem = refl

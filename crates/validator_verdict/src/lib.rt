@@ -1,6 +1,8 @@
 // The validator: a verdict on all walks of an image.
 //
 // `specs/Verdict.antt` says what is answered and what is left of the working store.
+#![tactic(auto)]
+
 ghost use Rattle.std.specs.Prelude.{◌≡◌, ◌%◌, ◌<◌, length};
 ghost use Rattle.ground_setup.specs.Setup.{size_of};
 ghost use Rattle.ground_look.specs.Look.{fault_number};
@@ -18,7 +20,7 @@ use validator_search::Searched;
 use validator_walks::Answer;
 
 // What is answered for an image.
-#[derive(Drop)]
+#[derive(Clone, Copy)]
 pub enum Verdict {
     // No walk meets a fault: the number of different places reached.
     Passed(usize),
@@ -42,6 +44,7 @@ fn fault_of(number: u8) -> Fault
 }
 
 // The verdict on an image that is not refused by its size or start.
+#[tactic(auto, using(crate::proofs::Judging::judged_none, crate::proofs::Judging::judged_passed, crate::proofs::Judging::judged_fault))]
 fn judge(image: &[u8], size: Size, start: usize, store: &mut [u8]) -> Verdict
     requires { (start % 2 ≡ 0) × (start < size_of size) }
     ensures { Judged (tried_store size (length store.old)) image.now start store.old store.new (verdict_values result) }

@@ -2,17 +2,19 @@
 //
 // `specs/Places.antt` has places and their numbers, `specs/Steps.antt` what one step leads to, `specs/Walks.antt` walks and
 // right answers. `specs/Starred.antt` has the worked cases.
+#![tactic(auto)]
+
 use ground_orders::Mode;
 
 // Where a walk is: an even address and a mode.
-#[derive(Drop)]
+#[derive(Clone, Copy)]
 pub struct Place {
     pub at: usize,
     pub mode: Mode,
 }
 
 // What one step leads to, each place as its number.
-#[derive(Drop)]
+#[derive(Clone, Copy)]
 pub enum Way {
     // A fault, by its number.
     Faulty(u8),
@@ -25,7 +27,7 @@ pub enum Way {
 }
 
 // What is found of all walks of an image.
-#[derive(Drop)]
+#[derive(Clone, Copy)]
 pub enum Answer {
     // No fault: the number of different places reached.
     Passed(usize),
