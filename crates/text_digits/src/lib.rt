@@ -1,6 +1,8 @@
 // Hexadecimal digits: what one is worth, whether a text has digits alone, and the bytes and words that a text holds.
 //
 // The contracts cite `specs/Digits.antt`.
+#![tactic(auto)]
+
 ghost use Rattle.std.specs.Prelude.{◌≡◌, ◌≤◌};
 ghost use Rattle.text_digits.specs.Digits.{hex_value, all_below, digit_at, hex_byte_at, hex_word_at};
 
@@ -24,6 +26,7 @@ fn hex_value(byte: u8) -> u8
 }
 
 // Whether a text has digits of this base alone.
+#[tactic(auto, using(crate::proofs::Laws::no_digit, crate::proofs::Laws::one_digit), unfolding(crate::specs::Digits::all_below))]
 pub fn all_below(base: u8, text: &[u8]) -> bool
     ensures { result ≡ all_below base text.now }
 {
@@ -38,6 +41,7 @@ pub fn all_below(base: u8, text: &[u8]) -> bool
 }
 
 // The value of the digit at a place, 16 where there is none.
+#[tactic(auto, unfolding(crate::specs::Digits::digit_at))]
 pub fn digit_at(text: &[u8], at: usize) -> u8
     ensures { (result ≡ digit_at text.now at) × (result ≤ 16) }
 {
@@ -48,6 +52,7 @@ pub fn digit_at(text: &[u8], at: usize) -> u8
 }
 
 // The byte that the two hexadecimal digits at a place are.
+#[tactic(auto, unfolding(crate::specs::Digits::hex_byte_at, crate::specs::Digits::digit_at))]
 pub fn byte_at(text: &[u8], at: usize) -> u8
     ensures { result ≡ hex_byte_at text.now at }
 {
@@ -60,6 +65,7 @@ pub fn byte_at(text: &[u8], at: usize) -> u8
 }
 
 // The word that the four hexadecimal digits at a place are.
+#[tactic(auto, unfolding(crate::specs::Digits::hex_word_at, crate::specs::Digits::hex_byte_at, crate::specs::Digits::digit_at))]
 pub fn word_at(text: &[u8], at: usize) -> u16
     ensures { result ≡ hex_word_at text.now at }
 {

@@ -1,13 +1,15 @@
 // Standard input, one read at a time.
 //
 // The contract cites `specs/Input.antt`.
+#![tactic(auto)]
+
 ghost use Rattle.std.specs.Prelude.{length};
 ghost use Rattle.text_input.specs.Input.{CameWithin};
 
-use libc::STDIN_FILENO;
+use std::io::{Read, Stdin};
 
 // What a read came to.
-#[derive(Drop)]
+#[derive(Clone, Copy)]
 pub enum Came {
     // So many bytes, which stand at the front of the buffer.
     Bytes(usize),
@@ -18,14 +20,12 @@ pub enum Came {
 }
 
 // One read into the buffer.
-pub fn read(buffer: &mut [u8]) -> Came
+pub fn read(mut stdin: Stdin, buffer: &mut [u8]) -> Came
     ensures { CameWithin (length buffer.old) result }
 {
-    let got = libc::read(STDIN_FILENO, buffer);
-    if got < 0 {
+    let Ok(count) = stdin.read(buffer) else {
         return Came::Failed;
-    }
-    let count = io::count(got, buffer);
+    };
     if count == 0 {
         return Came::End;
     }

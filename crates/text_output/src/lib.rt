@@ -1,14 +1,20 @@
 // Standard output, and standard error.
 //
 // The contracts cite `specs/Output.antt`.
+#![tactic(auto)]
+
 ghost use Rattle.std.specs.Prelude.{◌≡◌, length};
 ghost use Rattle.text_output.specs.Output.{Handed};
 
-use libc::{STDERR_FILENO, STDOUT_FILENO};
 use text_parts as parts;
 
+// The numbers of standard output and of standard error.
+const STDOUT_FILENO: i32 = 1;
+
+const STDERR_FILENO: i32 = 2;
+
 // How many bytes were handed to standard output, and whether whoever reads them is still there.
-#[derive(Drop)]
+#[derive(Clone, Copy)]
 pub struct Output {
     pub written: usize,
     pub open: bool,

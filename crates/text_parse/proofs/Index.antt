@@ -6,10 +6,12 @@ use mathlib.Core.List.{List, [], ◌∷◌, ◌++◌}
 use native.Mathlib.Decide.{dec_le}
 use native.Mathlib.Nat.{zero-add, suc-add}
 use native.Mathlib.Omega.{arith}
-use lib.ListN.{length, take, length-append}
-use lib.Seq.{take_all}
+use lib.ListN.{length, take, drop, get_or, drop_of_length-le, length-append}
+use lib.Seq.{take_all, drop-cons}
 use lib.Dec.{eqb}
-use Rattle.bytes.specs.Bytes.{index_of, index_after}
+use native.Mathlib.Numerals.{add-one}
+use borrow.Author.Tests.{eq-eqb, ne_eqb}
+use Rattle.text_parse.specs.Index.{index_of, index_after}
 
 -- behind a text that has no such byte
 pub index_behind : (b : ℕ) (s r : List ℕ) → index_of b s ≡ length s → index_of b (s ++ r) ≡ length s + index_of b r
@@ -71,3 +73,17 @@ none_first b k s e =
 
 pub none_both : (b : ℕ) (s r : List ℕ) → index_of b s ≡ length s → index_of b r ≡ length r → index_of b (s ++ r) ≡ length (s ++ r)
 none_both b s r e f = index_behind b s r e ∙ ap (λ (n : ℕ). length s + n) f ∙ sym (length-append s r)
+
+-- one byte more that was looked at, and none that is left
+module _ (b : ℕ) (s : List ℕ) (i : ℕ) where
+  pub index_here : i < length s → get_or s i 0 ≡ b → index_of b (drop i s) ≡ 0
+  unfolding index_of index_after
+  index_here more e = rw (drop-cons s i 0, eq-eqb (get_or s i 0) b e)
+
+  pub index_further : i < length s → (get_or s i 0 ≡ b → ⊥) → index_of b (drop i s) ≡ suc (index_of b (drop (i + 1) s))
+  unfolding index_of index_after
+  index_further more ne = rw (add-one, drop-cons s i 0, ne_eqb (get_or s i 0) b ne)
+
+  pub index_end : length s ≤ i → index_of b (drop i s) ≡ 0
+  unfolding index_of
+  index_end over = rw (drop_of_length-le s {i = i} over)

@@ -1,10 +1,12 @@
 // Numbers read from text, and where a byte stands in one.
+#![tactic(auto)]
+
 ghost use Rattle.std.specs.Prelude.{◌≡◌, ◌≤◌, length};
-ghost use Rattle.bytes.specs.Bytes.{index_of};
+ghost use Rattle.text_parse.specs.Index.{index_of};
 ghost use Rattle.text_parse.specs.Parse.{digit, number_from, parsed_of};
 
 // What a text is as a number.
-#[derive(Drop)]
+#[derive(Clone, Copy)]
 pub enum Parsed {
     Number(usize),
     Wrong,
@@ -21,6 +23,7 @@ fn is_digit(byte: u8) -> bool
 }
 
 // The number that the digits of a short text make.
+#[tactic(auto, using(crate::proofs::Laws::digit_from, crate::proofs::Laws::digit_to, crate::proofs::Laws::small, crate::proofs::Laws::no_digit, crate::proofs::Laws::one_digit), unfolding(crate::specs::Parse::number_from))]
 fn number_in(text: &[u8]) -> Parsed
     requires { length text.now ≤ 5 }
     ensures { result ≡ number_from 0 text.now }
@@ -51,8 +54,14 @@ pub fn number_of(text: &[u8]) -> Parsed
 }
 
 // How many bytes of a text stand before the first that is this byte.
+#[tactic(auto, using(crate::proofs::Index::index_here, crate::proofs::Index::index_further, crate::proofs::Index::index_end))]
 pub fn index_of(byte: u8, text: &[u8]) -> usize
     ensures { (result ≡ index_of byte text.now) × (result ≤ length text.now) }
 {
-    bytes::scan::find(text, 0, text.len(), byte)
+    for (i, x) in text.iter().enumerate() {
+        if *x == byte {
+            return i;
+        }
+    }
+    text.len()
 }

@@ -1,4 +1,6 @@
 // Parts of bytes that a caller lends: the first of them, and those behind. Each call answers for every number.
+#![tactic(auto)]
+
 ghost use Rattle.std.specs.Prelude.{◌≡◌, take, drop};
 
 // The first bytes, or all where there are fewer.

@@ -1,5 +1,7 @@
 // Text put into a buffer that the caller lends: bytes, decimal numbers, hexadecimal bytes and words. What there is no
 // room for is left out; each call answers where the text ends.
+#![tactic(auto)]
+
 ghost use Rattle.std.specs.Prelude.{◌≡◌, min, ◌<◌};
 ghost use Rattle.text_put.specs.Text.{put_at, end_of, decimal_of, hex_digit, hex_byte, hex_word};
 
@@ -11,6 +13,7 @@ fn least(a: usize, b: usize) -> usize
 }
 
 // Puts a text into the buffer from a place on.
+#[tactic(auto, using(crate::proofs::Laws::put_none), unfolding(crate::specs::Text::end_of, crate::specs::Text::put_at))]
 pub fn put(buffer: &mut [u8], at: usize, text: &[u8]) -> usize
     ensures value { result ≡ end_of buffer.old at text.now }
     ensures buffer_after { buffer.new ≡ put_at buffer.old at text.now }
@@ -28,6 +31,7 @@ pub fn put(buffer: &mut [u8], at: usize, text: &[u8]) -> usize
 }
 
 // Puts a number in decimal.
+#[tactic(auto, using(crate::proofs::Digits::decimal))]
 pub fn put_decimal(buffer: &mut [u8], at: usize, n: usize) -> usize
     ensures value { result ≡ end_of buffer.old at (decimal_of n) }
     ensures buffer_after { buffer.new ≡ put_at buffer.old at (decimal_of n) }
@@ -55,6 +59,7 @@ pub fn put_byte(buffer: &mut [u8], at: usize, byte: u8) -> usize
 }
 
 // Puts a word in four hexadecimal digits.
+#[tactic(auto, using(crate::proofs::Laws::end_join, crate::proofs::Laws::put_join))]
 pub fn put_word(buffer: &mut [u8], at: usize, word: u16) -> usize
     ensures value { result ≡ end_of buffer.old at (hex_word word) }
     ensures buffer_after { buffer.new ≡ put_at buffer.old at (hex_word word) }

@@ -1,13 +1,15 @@
 // How a program ends that reads a piece, writes what it gives, and goes on.
 //
 // The contract cites `specs/Ends.antt`.
+#![tactic(auto)]
+
 ghost use Rattle.std.specs.Prelude.{◌≡◌};
 ghost use Rattle.text_stream.specs.Ends.{closed_of};
 
 use text_output::Output;
 
 // How it ends.
-#[derive(Drop)]
+#[derive(Clone, Copy)]
 pub enum Ending {
     // The input has ended, and all that it gives is written.
     All,
@@ -20,7 +22,7 @@ pub enum Ending {
 }
 
 // How many bytes came, what was written, and how that ended.
-#[derive(Drop)]
+#[derive(Clone, Copy)]
 pub struct Streamed {
     pub came: usize,
     pub output: Output,
