@@ -24,7 +24,8 @@ use Rattle.record_format.proofs.First.{kind_first}
 use Rattle.record_lines.proofs.Short.{passed_short, refused_short, fault_short}
 use Rattle.record_intake.specs.Intake.{Suffices}
 use Rattle.record_intake.proofs.Laws.{need_rest}
-use Rattle.validator_store.specs.Layout.{room_of, room_here}
+use Rattle.validator_store.specs.Layout.{room_of}
+use Rattle.validator_store.proofs.Layouts.{room_here}
 use Rattle.validator_verdict.specs.Verdict.{VerdictValues, Tried, tried_by, tried_of, Judged}
 use Rattle.validator_verdict.proofs.Unique.{judged_unique}
 use Rattle.record_answer.specs.Answer.{verdict_line, LineOf, AnswerOf, RecordLine, LineAnswered}

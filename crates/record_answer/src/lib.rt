@@ -1,6 +1,8 @@
 // The line that is printed for a whole record, put into a buffer that the caller lends.
 //
 // The contracts cite `specs/Answer.antt`.
+#![tactic(auto)]
+
 ghost use Rattle.std.specs.Prelude.{◌≡◌, drop};
 ghost use Rattle.ground_refusals.specs.Refusals.{refusal_number};
 ghost use Rattle.text_put.specs.Text.{put_at, end_of};

@@ -2,10 +2,6 @@
 use Prim.Native.Nat.{ℕ, ◌≤◌, ◌<◌}
 use mathlib.Core.Path.{◌≡◌, sym, ap, ◌∙◌}
 use mathlib.Core.List.{List, [], ◌∷◌, ◌++◌}
-use mathlib.Core.Logic.{⊎_elim}
-use borrow.Author.Rules.{rules}
-use types.Run.{OneOf}
-use denote.Enum.Declared.{tag_of}
 use native.Mathlib.Omega.{arith}
 use native.Mathlib.Decide.{dec_lt}
 use borrow.Author.Tests.{ne_eqb, lt-ltb, le-ltb}
@@ -13,8 +9,7 @@ use lib.ListN.{length, take, drop, length-take, take-append-drop, get_or-append}
 use lib.Seq.{take_all}
 use Rattle.record_format.specs.Records.{length_in, kind_in, header_of}
 use Rattle.record_format.specs.declared.Header.{Header}
-use Rattle.record_format.specs.declared.Header.TheVariants.{Record, Cut, End}
-use Rattle.record_format.specs.contracts.Header.{the_type as head-type}
+use Rattle.record_format.specs.declared.Header.TheVariants.{Record, Cut}
 
 pub length_first : (a r : List ℕ) → 6 ≤ length a → length_in (a ++ r) ≡ length_in a
 unfolding length_in
@@ -43,17 +38,12 @@ kind_take_six n s six long =
 pub header_whole : (s : List ℕ) → 6 ≤ length s → header_of s ≡ Record (length_in s) (kind_in s)
 header_whole s six = simp (ne_eqb (length s) 0 (λ e. omega arith), le-ltb (length s) 6 six)
 
--- what is no record's header is none
-pub no_record : (h : Header) (n kind : ℕ) → OneOf (1 ∷ 2 ∷ []) (tag_of head-type h) → h ≡ Record n kind → ⊥
-no_record (Record m k) n kind o e = ⊎_elim (λ e. search rules) (λ e. search rules) o
-no_record Cut n kind o e = let z : ◌≡◌ {A = ℕ} 0 1 = cc in omega arith
-no_record End n kind o e = let z : ◌≡◌ {A = ℕ} 0 1 = cc in omega arith
-
-pub header_short : (h : Header) (s : List ℕ) → OneOf (1 ∷ 2 ∷ []) (tag_of head-type h) → h ≡ header_of s → length s < 6
-header_short h s o e =
+-- what is no record's header is that of fewer
+pub header_short : (h : Header) (s : List ℕ) → ((n kind : ℕ) → h ≡ Record n kind → ⊥) → h ≡ header_of s → length s < 6
+header_short h s none e =
     elim (dec_lt (length s) 6) [
       | yes short ↦ short
-      | no long ↦ absurd (no_record h (length_in s) (kind_in s) o (e ∙ header_whole s (omega arith)))
+      | no long ↦ absurd (none (length_in s) (kind_in s) (e ∙ header_whole s (omega arith)))
     ]
 
 short_header : (s : List ℕ) (n kind : ℕ) → length s < 6 → header_of s ≡ Record n kind → ⊥

@@ -1,13 +1,15 @@
 // A record of an input, read: payload length (4 bytes), kind (2 bytes), payload, little-endian.
 //
 // The contracts cite `specs/Records.antt`.
+#![tactic(auto)]
+
 ghost use Rattle.std.specs.Prelude.{◌≡◌, ◌+◌, ◌*◌, ◌<◌, ◌≤◌};
 ghost use Rattle.record_format.specs.Records.{header_of, HeaderWithin, kind_row, cut_of, payload_of};
 
 use ground_refusals::Refusal;
 
 // What stands where a header was due.
-#[derive(Drop)]
+#[derive(Clone, Copy)]
 pub enum Header {
     Record { length: usize, kind: usize },
     Cut,
@@ -15,14 +17,14 @@ pub enum Header {
 }
 
 // What a record's payload is.
-#[derive(Drop)]
+#[derive(Clone, Copy)]
 pub enum Payload {
     Image { size: usize, start: usize },
     Refused(Refusal),
 }
 
 // A row of the table of kinds: whether the kind is known, and how many bytes of its payload a record can need.
-#[derive(Drop)]
+#[derive(Clone, Copy)]
 pub struct Kind {
     pub known: bool,
     pub needed: usize,
@@ -36,6 +38,7 @@ fn two(low: u8, high: u8) -> usize
 }
 
 // What the bytes that the input had for a header are: at most six are looked at.
+#[tactic(auto, unfolding(crate::specs::Records::length_in, crate::specs::Records::kind_in))]
 pub fn read_header(bytes: &[u8]) -> Header
     ensures { (result ≡ header_of bytes.now) × HeaderWithin result }
 {

@@ -3,10 +3,7 @@ use Prim.Native.Nat.{ℕ, ◌+◌, ◌-◌, ◌≤◌, ◌<◌, min}
 use mathlib.Core.Path.{◌≡◌, refl, sym, ap, subst, ◌∙◌}
 use mathlib.Core.Bool.{Bool, true, false, cond}
 use mathlib.Core.List.{List, [], ◌∷◌, ◌++◌, append_assoc}
-use mathlib.Core.Logic.{⊎_elim}
 use native.Mathlib.Omega.{arith}
-use types.Run.{OneOf}
-use denote.Enum.Declared.{tag_of}
 use native.Mathlib.Decide.{dec_lt}
 use borrow.Author.Tests.{lt-ltb, le-ltb}
 use lib.ListN.{length, take, drop, replicate, length-take, length-append, length-replicate, take-append-drop}
@@ -16,7 +13,6 @@ use Rattle.record_format.specs.Records.{length_in, kind_in, extent_of, header_of
 use Rattle.record_format.specs.declared.Kind.{Kind}
 use Rattle.record_format.specs.declared.Header.{Header}
 use Rattle.record_format.specs.declared.Header.TheVariants.{Record, Cut, End}
-use Rattle.record_format.specs.contracts.Header.{the_type as head-type}
 use Rattle.record_format.proofs.First.{length_first, kind_first, length_take_six, header_first, header_whole, header_is}
 use Rattle.text_put.specs.Text.{put_at, end_of}
 use Rattle.text_put.proofs.Laws.{put_whole, put_no_text}
@@ -140,11 +136,6 @@ header_kept had some kept kept' s piece room e put o =
 -- what a header says
 pub header_bound : (h : Header) (n kind : ℕ) → HeaderWithin h → h ≡ Record n kind → n < 4294967296
 header_bound h n kind w e = (subst HeaderWithin e w).0
-
-pub no_open : (seen : ℕ) (h : Header) → OneOf (1 ∷ 2 ∷ []) (tag_of head-type h) → open_by seen h ≡ 0
-no_open seen (Record n kind) o = ⊎_elim (λ e. absurd (omega arith)) (λ e. absurd (omega arith)) o
-no_open seen Cut o = refl
-no_open seen End o = refl
 
 -- a record of which no header is whole is open
 pub still_headless : (had some : ℕ) (kept kept' s piece : List ℕ) → some ≡ had + length piece

@@ -1,6 +1,8 @@
 // Records that come in pieces: finds the next one that is whole, and keeps of one that a border cuts what can be needed.
 //
 // The contracts cite `specs/Intake.antt`.
+#![tactic(auto)]
+
 ghost use Rattle.std.specs.Prelude.{◌≡◌, List, ℕ, ◌+◌, ◌-◌, ◌≤◌, ◌<◌, min, length, take};
 ghost use Rattle.text_put.specs.Text.{put_at};
 ghost use Rattle.record_format.specs.Records.{extent_of, header_of, HeaderWithin, kind_row};
@@ -15,7 +17,7 @@ use text_put as text;
 pub const KEPT: usize = 32779;
 
 // What is found when a piece is taken in.
-#[derive(Drop)]
+#[derive(Clone, Copy)]
 pub enum Entry {
     // A whole record, for which so many bytes of the piece were used; its first bytes stand at the front of the piece, or of
     // what is kept.

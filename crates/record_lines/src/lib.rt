@@ -1,5 +1,7 @@
 // The lines of a printed verdict, put into a buffer that the caller lends. Each call answers where its line ends; a line
 // never has more than 128 bytes.
+#![tactic(auto)]
+
 ghost use Rattle.std.specs.Prelude.{◌≡◌};
 ghost use Rattle.text_put.specs.Text.{put_at, end_of, named};
 ghost use Rattle.record_lines.specs.Lines.{line_of, passed_line, fault_line, refused_line};
@@ -7,6 +9,7 @@ ghost use Rattle.record_lines.specs.Lines.{line_of, passed_line, fault_line, ref
 use text_put as text;
 
 // Puts a word and a number behind it.
+#[tactic(auto, using(text_put::proofs::Laws::end_join, text_put::proofs::Laws::put_join))]
 fn put_named(buffer: &mut [u8], at: usize, word: &[u8], n: usize) -> usize
     ensures value { result ≡ end_of buffer.old at (named word.now n) }
     ensures buffer_after { buffer.new ≡ put_at buffer.old at (named word.now n) }
@@ -16,6 +19,7 @@ fn put_named(buffer: &mut [u8], at: usize, word: &[u8], n: usize) -> usize
 }
 
 // Puts a line of two numbers: the record's, and one behind a word.
+#[tactic(auto, using(text_put::proofs::Laws::end_join, text_put::proofs::Laws::put_join))]
 fn put_line(buffer: &mut [u8], at: usize, number: usize, word: &[u8], n: usize) -> usize
     ensures value { result ≡ end_of buffer.old at (line_of number word.now n) }
     ensures buffer_after { buffer.new ≡ put_at buffer.old at (line_of number word.now n) }
@@ -34,6 +38,7 @@ pub fn put_passed(buffer: &mut [u8], at: usize, number: usize, places: usize) ->
 }
 
 // Puts the line of a record with a fault: its number, the fault's, where it is met and after how many steps.
+#[tactic(auto, using(text_put::proofs::Laws::end_join, text_put::proofs::Laws::put_join))]
 pub fn put_fault(
     buffer: &mut [u8],
     at: usize,

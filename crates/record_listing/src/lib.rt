@@ -1,6 +1,8 @@
 // The listing of records that come in pieces: takes in a piece, and puts a line for each record that is whole.
 //
 // The contracts cite `specs/Listing.antt`.
+#![tactic(auto)]
+
 ghost use Rattle.std.specs.Prelude.{◌≡◌, cond, ◌+◌, ◌≤◌, ◌<◌, length, take, drop};
 ghost use Rattle.text_put.specs.Text.{put_at, end_of};
 ghost use Rattle.record_format.specs.Records.{kind_in, header_of, payload_of};
@@ -18,14 +20,14 @@ use record_lines as lines;
 use text_parts as parts;
 
 // Where a listing stands between two pieces: the number of the record that is open, and how many bytes of it have come.
-#[derive(Drop)]
+#[derive(Clone, Copy)]
 pub struct ListingAt {
     pub number: usize,
     pub seen: usize,
 }
 
 // Where it stands behind a piece: how many bytes of it were used, and where the text that was put ends.
-#[derive(Drop)]
+#[derive(Clone, Copy)]
 pub struct Fed {
     pub listing: ListingAt,
     pub used: usize,
@@ -171,6 +173,7 @@ pub fn feed(
 }
 
 // Puts what is printed where the input ends, by what stands where a header was due.
+#[tactic(auto, using(text_put::proofs::Laws::put_no_text), unfolding(text_put::specs::Text::end_of))]
 fn put_last(out: &mut [u8], number: usize, head: Header) -> usize
     ensures value { result ≡ end_of out.old 0 (last_line number head) }
     ensures out_after { out.new ≡ put_at out.old 0 (last_line number head) }

@@ -1,6 +1,8 @@
 // A record of kind 1, made: payload length (4 bytes), kind (2 bytes), size, start and the image, little-endian.
 //
 // The contracts cite `specs/Making.antt`.
+#![tactic(auto)]
+
 ghost use Rattle.std.specs.Prelude.{◌≡◌, [], ◌%◌};
 ghost use Rattle.text_put.specs.Text.{put_at, end_of};
 ghost use Rattle.record_make.specs.Making.{bytes16, bytes32, record_of};
@@ -33,6 +35,7 @@ fn opening_of(length: usize, size: u16, start: u16) -> [u8; 10]
 }
 
 // Puts the record of an image at the front of a buffer.
+#[tactic(auto, using(text_put::proofs::Laws::end_join, text_put::proofs::Laws::put_join))]
 pub fn put_record(out: &mut [u8], image: &[u8], size: u16, start: u16) -> usize
     ensures value { result ≡ end_of out.old 0 (record_of image.now size start) }
     ensures out_after { out.new ≡ put_at out.old 0 (record_of image.now size start) }

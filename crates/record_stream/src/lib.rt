@@ -1,12 +1,15 @@
 // The listing of standard input on standard output: read a piece, take it in, write what it gives; at the end of the input, close.
 //
 // The contracts cite `specs/Stream.antt`.
+#![tactic(auto)]
+
 ghost use Rattle.std.specs.Prelude.{[], ◌+◌, ◌≤◌, ◌<◌, length};
 ghost use Rattle.record_stream.specs.Stream.{Pours, Between, Lists};
 
 use record_intake::KEPT;
 use record_listing as listing;
 use record_listing::ListingAt;
+use std::io::Stdin;
 use text_input as input;
 use text_input::Came;
 use text_output as output;
@@ -16,13 +19,14 @@ use text_stream as stream;
 use text_stream::{Ending, Streamed};
 
 // Where the listing and the output stand behind a piece.
-#[derive(Drop)]
+#[derive(Clone, Copy)]
 struct Poured {
     listing: ListingAt,
     output: Output,
 }
 
 // Takes in a piece, and writes what it gives as often as the buffer is full.
+#[tactic(auto, using(crate::proofs::Laws::pours_none, crate::proofs::Laws::pours_all))]
 fn pour(
     listing: ListingAt,
     kept: &mut [u8; KEPT],
@@ -51,6 +55,7 @@ fn pour(
 }
 
 // Ends the listing at the end of the input. That an input cannot be read is told, and nothing is closed.
+#[tactic(auto, using(text_stream::proofs::Laws::closed_ends, crate::proofs::Laws::reads_closed))]
 fn finish(
     came: Came,
     listing: ListingAt,
@@ -75,7 +80,9 @@ fn finish(
 }
 
 // Lists the input, piece by piece.
+#[tactic(auto, using(crate::proofs::Laws::reads_first))]
 fn list_in(
+    stdin: Stdin,
     buffer: &mut [u8],
     kept: &mut [u8; KEPT],
     out: &mut [u8],
@@ -91,7 +98,7 @@ fn list_in(
     };
     let mut count = 0;
     while count < usize::MAX - 65537 {
-        let came = input::read(buffer);
+        let came = input::read(stdin, buffer);
         let Came::Bytes(n) = came else {
             return finish(came, state, kept, out, output, count);
         };
@@ -115,12 +122,12 @@ fn list_in(
 }
 
 // Lists standard input on standard output.
-pub fn list() -> Streamed
+pub fn list(stdin: Stdin) -> Streamed
     ensures { Lists result }
 {
     let mut buffer = [0u8; 65536];
     let mut kept = [0u8; KEPT];
     let mut out = [0u8; 32768];
     let mut store = [0u8; 32768];
-    list_in(&mut buffer, &mut kept, &mut out, &mut store)
+    list_in(stdin, &mut buffer, &mut kept, &mut out, &mut store)
 }
