@@ -1,6 +1,8 @@
 // The line of the unit's state, put into a buffer that the caller lends: each call answers where its text ends.
 //
 // The contracts cite `specs/Conditions.antt`.
+#![tactic(auto)]
+
 ghost use Rattle.std.specs.Prelude.{◌≡◌, cond, ◌≤◌};
 ghost use Rattle.text_put.specs.Text.{put_at, end_of};
 ghost use Rattle.console_conditions.specs.Conditions.{mode_text, place_text, pen_mode_text, pen_text, latched_zero, latched_one, signal_text, state_line};

@@ -2,6 +2,8 @@
 // line ends.
 //
 // The contracts cite `specs/Contents.antt`.
+#![tactic(auto)]
+
 ghost use Rattle.std.specs.Prelude.{◌≡◌, ◌++◌, ◌+◌, ◌≤◌, get_or};
 ghost use Rattle.text_put.specs.Text.{put_at, end_of, spelled};
 ghost use Rattle.ground_setup.specs.Setup.{size_of};

@@ -2,6 +2,8 @@
 // of one.
 //
 // The contracts cite `specs/Decode.antt`.
+#![tactic(auto)]
+
 ghost use Rattle.std.specs.Prelude.{◌≡◌, ◌*◌, length};
 ghost use Rattle.text_digits.specs.Digits.{hex_byte_at, hex_word_at};
 ghost use Rattle.console_decode.specs.Decode.{bytes_in, words_in, sights_in};
@@ -9,6 +11,7 @@ ghost use Rattle.console_decode.specs.Decode.{bytes_in, words_in, sights_in};
 use text_digits as digits;
 
 // The byte of an index in a text.
+#[tactic(auto, using(crate::proofs::Laws::bytes_ended))]
 fn byte_in(text: &[u8], i: usize) -> u8
     ensures { result ≡ hex_byte_at text.now (2 * i) }
 {
@@ -19,6 +22,7 @@ fn byte_in(text: &[u8], i: usize) -> u8
 }
 
 // The word of an index in a text.
+#[tactic(auto, using(crate::proofs::Laws::words_ended))]
 fn word_in(text: &[u8], i: usize) -> u16
     ensures { result ≡ hex_word_at text.now (4 * i) }
 {

@@ -8,7 +8,7 @@ use native.Mathlib.Omega.{arith}
 use native.Mathlib.Decide.{dec_lt}
 use lib.ListN.{length, take, drop, length-append, length-drop}
 use lib.Seq.{take-length, take-add}
-use Rattle.bytes.specs.Bytes.{index_of}
+use Rattle.text_parse.specs.Index.{index_of}
 use Rattle.text_parse.proofs.Index.{none_both}
 use Rattle.text_put.specs.Text.{end_of}
 use Rattle.text_put.proofs.Laws.{Puts, put_no_text, length_put, behind, puts_as}

@@ -2,6 +2,8 @@
 // the caller lends.
 //
 // The contracts cite `specs/Dialogue.antt`.
+#![tactic(auto)]
+
 ghost use Rattle.std.specs.Prelude.{◌≡◌, cond, [], ◌+◌, ◌≤◌, ◌<◌, length, take};
 ghost use Rattle.text_put.specs.Text.{put_at, end_of};
 ghost use Rattle.console_session.specs.Session.{said_of, Speaks};
@@ -17,14 +19,14 @@ use ground_setup::Size;
 use text_parts as parts;
 
 // The unit between two pieces, and how many bytes of the line that is open are kept.
-#[derive(Drop)]
+#[derive(Clone, Copy)]
 pub struct Dialogue {
     pub device: Device,
     pub seen: usize,
 }
 
 // What feeding a piece came to: the dialogue behind it, how many of its bytes were used, and where the text in the buffer ends.
-#[derive(Drop)]
+#[derive(Clone, Copy)]
 pub struct Taken {
     pub dialogue: Dialogue,
     pub used: usize,
@@ -60,6 +62,7 @@ fn answer_found(
 }
 
 // Takes in the first line of a piece, or what there is of it, where its answer finds room.
+#[tactic(auto, using(crate::proofs::Laws::takes_line, crate::proofs::Laws::takes_open))]
 fn advance(
     dialogue: Dialogue,
     kept: &mut [u8; LINE],
@@ -100,6 +103,7 @@ fn advance(
 
 // Feeds a piece: the answers of the lines that are whole stand one behind the other at the front of the buffer. Stops before the
 // piece's end only where fewer than 487,600 bytes are free.
+#[tactic(auto, using(crate::proofs::Laws::taking_none, crate::proofs::Laws::leaves_full, crate::proofs::Laws::leaves_none))]
 pub fn feed(dialogue: Dialogue, kept: &mut [u8; LINE], piece: &[u8], out: &mut [u8]) -> Taken
     ensures takes_in { TakesIn dialogue kept.old piece.now out.old 0 result kept.new out.new }
     ensures leaves_over { LeavesOver piece.now out.old result }

@@ -9,7 +9,7 @@ use lib.ListN.{length, take, length-take}
 use lib.Seq.{take_all, take-take, take-append-add, take-paste}
 use lib.Dec.{eqb}
 use borrow.Author.Tests.{eq-eqb, ne_eqb, eqb-true}
-use Rattle.bytes.specs.Bytes.{index_of}
+use Rattle.text_parse.specs.Index.{index_of}
 use Rattle.text_parse.proofs.Index.{none_first, none_both}
 use Rattle.text_put.specs.Text.{put_at, end_of}
 use Rattle.text_put.proofs.Laws.{Puts}

@@ -1,7 +1,7 @@
 -- A script that comes in pieces, and the line of it that is open: its newline has not come yet. Of a line longer than 40,000 bytes only
 -- that is told, so no more than its first 40,001 bytes are kept.
 use Rattle.std.specs.Prelude.{ℕ, ◌+◌, ◌≤◌, ◌≡◌, cond, List, [], ◌++◌, length, take, eqb}
-use Rattle.bytes.specs.Bytes.{index_of}
+use Rattle.text_parse.specs.Index.{index_of}
 use Rattle.console_intake.specs.declared.Line.{Line}
 use Rattle.console_intake.specs.declared.Line.TheVariants.{Whole, Open}
 

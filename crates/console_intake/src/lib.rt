@@ -1,6 +1,8 @@
 // The lines of a script that comes in pieces: a line that a piece holds whole is found where it stands, and one that a border cuts is kept.
 //
 // The contracts cite `specs/Intake.antt`.
+#![tactic(auto)]
+
 ghost use Rattle.std.specs.Prelude.{◌≡◌};
 ghost use Rattle.console_intake.specs.Intake.{open_line, LineFound};
 
@@ -12,7 +14,7 @@ use text_put as text;
 pub const LINE: usize = 40001;
 
 // What a piece does to the line that is open.
-#[derive(Drop)]
+#[derive(Clone, Copy)]
 pub enum Line {
     // It ends it: the line is the first `count` bytes of the piece (`direct`) or of those kept, and `used` bytes of the piece are
     // taken with its newline.
@@ -26,6 +28,7 @@ pub enum Line {
 }
 
 // The line that is open, as far as it is kept.
+#[tactic(auto, using(crate::proofs::Laws::open_is, crate::proofs::Laws::open_not))]
 pub fn open_line(kept: &[u8], seen: usize) -> &[u8]
     ensures { result.now ≡ open_line seen kept.now }
 {
@@ -37,6 +40,7 @@ pub fn open_line(kept: &[u8], seen: usize) -> &[u8]
 }
 
 // Takes in a piece up to the newline that ends the line that is open, or all of it.
+#[tactic(auto, using(crate::proofs::Laws::goes_on, crate::proofs::Laws::ends_kept, crate::proofs::Laws::ends_direct))]
 pub fn next(seen: usize, kept: &mut [u8; LINE], piece: &[u8]) -> Line
     ensures { LineFound (open_line seen kept.old) piece.now kept.new result }
 {

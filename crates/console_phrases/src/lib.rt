@@ -1,5 +1,7 @@
 // The pieces that printed lines are made of, put into a buffer that the caller lends: each call answers where its text
 // ends.
+#![tactic(auto)]
+
 ghost use Rattle.std.specs.Prelude.{◌≡◌, cond, []};
 ghost use Rattle.text_put.specs.Text.{put_at, end_of, named};
 ghost use Rattle.console_phrases.specs.Phrases.{paired, byte_named};
@@ -46,6 +48,7 @@ pub fn put_either(buffer: &mut [u8], at: usize, flag: bool, yes: &[u8], no: &[u8
 }
 
 // Puts nothing: where a text that is yet to come begins.
+#[tactic(auto, unfolding(text_put::specs::Text::end_of))]
 pub fn put_nothing(buffer: &[u8], at: usize) -> usize
     ensures { result ≡ end_of buffer.now at [] }
 {

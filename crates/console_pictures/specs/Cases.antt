@@ -1,6 +1,6 @@
 -- Worked lines of drawn items, each by its eight numbers.
-use Rattle.std.specs.Prelude.{◌≡◌, refl}
-use Rattle.text_put.specs.Text.{spelled, decimal_in}
+use Rattle.std.specs.Prelude.{◌≡◌}
+use Rattle.text_put.specs.Text.{spelled}
 use Rattle.console_pictures.specs.Pictures.{item_line}
 
 pub record LineCases : Type 0 where
@@ -12,7 +12,3 @@ pub record LineCases : Type 0 where
   -- a character's code is its own, 1 too
   pub character : item_line 3 5 6 5 6 1 1 10 ≡ spelled "character 5 6 code 01 basic at 10\n"
   pub cursor : item_line 4 5 6 5 6 0xC1 2 11 ≡ spelled "cursor 5 6 code C1 large at 11\n"
-
-pub line_cases : LineCases
-unfolding item_line decimal_in
-line_cases = record { point = refl; vector = refl; point_off = refl; vector_off = refl; character = refl; cursor = refl }

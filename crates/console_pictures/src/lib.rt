@@ -1,6 +1,8 @@
 // The lines of drawn items, put into a buffer that the caller lends: each call answers where its text ends.
 //
 // The contracts cite `specs/Pictures.antt`.
+#![tactic(auto)]
+
 ghost use Rattle.std.specs.Prelude.{◌≡◌, ◌+◌, ◌*◌, ◌/◌, ◌≤◌, min, length};
 ghost use Rattle.text_put.specs.Text.{put_at, end_of};
 ghost use Rattle.console_pictures.specs.Pictures.{at_text, left_text, point_line, vector_line, code_text, symbol_line, item_line, item_line_at, items_text};
@@ -83,6 +85,7 @@ fn put_symbol(
 }
 
 // Puts the line of an item, by its eight numbers.
+#[tactic(auto, unfolding(crate::specs::Pictures::item_line))]
 fn put_item(
     buffer: &mut [u8],
     at: usize,

@@ -1,6 +1,8 @@
 // The lines that answer a request, put into a buffer that the caller lends: each call answers where its line ends.
 //
 // The contracts cite `specs/Replies.antt`.
+#![tactic(auto)]
+
 ghost use Rattle.std.specs.Prelude.{◌≡◌};
 ghost use Rattle.text_put.specs.Text.{put_at, end_of};
 ghost use Rattle.console_replies.specs.Replies.{ok_line, error_line, refusal_line, heard_line, ran_line};

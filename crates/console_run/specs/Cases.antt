@@ -1,24 +1,11 @@
 -- Worked runs with their lists, as one table over the definitions: what is listed behind what, and when 9 is told.
-use Rattle.std.specs.Prelude.{ℕ, ◌≡◌, refl, true, false, List, [], ◌∷◌, map}
-use Rattle.std.specs.Int.Count.{ones, ones_in}
-use Rattle.ground_orders.specs.Orders.{table, find_in, order_of}
+use Rattle.std.specs.Prelude.{ℕ, true, false, List, [], ◌∷◌}
 use Rattle.ground_orders.specs.declared.Mode.TheVariants.{Idle, Point, Vector, IncrementalVector, Basic}
-use Rattle.ground_groups.specs.Groups.{words_group}
-use Rattle.ground_look.specs.Look.{look_of}
-use Rattle.unit_beam.specs.Beam.{placed, blanked_place, increment, exact_sum, summed, stepped, leaves_screen, blanked_step, line_below, new_line, after_character}
-use Rattle.unit_pen.specs.Pen.{fresh, detects, seen_of, spent_pen, detected}
-use Rattle.unit_items.specs.Items.{listing, listed}
-use Rattle.unit_motion.specs.Codes.{draws, after_code}
-use Rattle.unit_motion.specs.Motion.{two_of, four_of, motion_of, beam_after}
-use Rattle.unit_drawing.specs.Drawing.{shows_cursor, has_cursor, code_strokes, codes_strokes, strokes_of, upto, hit_in}
+use Rattle.unit_pen.specs.Pen.{fresh}
 use Rattle.unit_head.specs.Head.{DisplayUnit, no_sense}
-use Rattle.unit_sense.specs.Sense.{sensing, sense_joined}
-use Rattle.unit_step.specs.Step.{step_over, step_from, items_drawn}
-use Rattle.unit_step.specs.Run.{steps_from, steps_done}
+use Rattle.unit_sense.specs.Sense.{sensing}
 use Rattle.unit_step.specs.Samples.{shows, ending, unknown, two_points, two_steps, cut_short, pointed, armed, spent, nines}
-use Rattle.unit_advance.specs.Advance.{progress_over, all_sights, gone_over, unit_advance}
-use Rattle.unit_list.specs.List.{next_items, unit_list}
-use Rattle.console_run.specs.Pair.{RunValues, RunEnd, run_end, pair_from, pair_run}
+use Rattle.console_run.specs.Pair.{RunValues, RunEnd, run_end}
 
 -- a unit before a run, its sights, the list lent, and what is left
 pub record RunCase : Type 0 where
@@ -60,8 +47,3 @@ run_cases =
     ∷ run_case (shows pointed 1 0 Basic true 3 5 armed 0 no_sense) (1 ∷ []) (nines 8)
     (run_end (shows pointed 1 0 Basic false 17 5 spent 0x82 (sensing false false true false)) (RunValues.ran 1 7 1) (3 ∷ 3 ∷ 5 ∷ 3 ∷ 5 ∷ 0xC1 ∷ 1 ∷ 0 ∷ []))
     ∷ []
-
--- each case of the table holds
-pub run_cases_lem : map (λ (c : RunCase). pair_run c.before c.sights c.lent) run_cases ≡ map (λ (c : RunCase). c.after) run_cases
-unfolding pair_run pair_from unit_advance all_sights gone_over progress_over steps_from steps_done step_from step_over unit_list next_items items_drawn look_of words_group order_of find_in table listing listed motion_of two_of four_of beam_after draws after_code strokes_of codes_strokes code_strokes shows_cursor has_cursor upto hit_in placed blanked_place increment exact_sum summed stepped leaves_screen blanked_step line_below new_line after_character detects seen_of spent_pen detected sense_joined ones ones_in
-run_cases_lem = refl

@@ -2,6 +2,8 @@
 // data stands ahead, all of it is listed and then gone over.
 //
 // The contracts cite `specs/Pair.antt`.
+#![tactic(auto)]
+
 ghost use Rattle.std.specs.Prelude.{◌≡◌, true, ◌<◌, length};
 ghost use Rattle.unit_head.specs.Head.{unit};
 ghost use Rattle.unit_advance.specs.Advance.{all_sights};
@@ -19,7 +21,7 @@ use unit_list::ListReply;
 use unit_step as step;
 
 // Why a run with its list ends.
-#[derive(Drop)]
+#[derive(Clone, Copy)]
 pub enum Outcome {
     // As advancing ends.
     Ended(End),
@@ -28,21 +30,21 @@ pub enum Outcome {
 }
 
 // What a run with its list answers: the steps done, why it ended and how many items it listed, or a refusal.
-#[derive(Drop)]
+#[derive(Clone, Copy)]
 pub enum RunReply {
     Done(usize, Outcome, usize),
     Refused(Refusal),
 }
 
 // The head after a run, and the answer.
-#[derive(Drop)]
+#[derive(Clone, Copy)]
 pub struct HeadRan {
     pub head: Head,
     pub answer: RunReply,
 }
 
 // One turn of a run, with the head behind it, its steps and the items that the list then holds: the run goes on, or ends there.
-#[derive(Drop)]
+#[derive(Clone, Copy)]
 pub enum Turn {
     On(Head, usize, usize),
     Last(Head, usize, Outcome, usize),
@@ -149,6 +151,7 @@ fn run_from(words: &[u16], start: Head, sights: &[u8], out: &mut [u16]) -> HeadR
 }
 
 // Runs the unit, one step for each sight, and lists what is drawn, eight numbers an item.
+#[tactic(auto, using(crate::proofs::Turning::pair_still), unfolding(crate::specs::Pair::pair_run))]
 pub fn run(words: &[u16], head: Head, sights: &[u8], out: &mut [u16]) -> HeadRan
     ensures { run_ended words.now result out.new ≡ pair_run (unit words.now head) sights.now out.old }
 {

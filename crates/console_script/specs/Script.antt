@@ -1,7 +1,7 @@
 -- The requests of a script: one a line, words parted by one space, numbers decimal up to five digits, bytes and words in
 -- capital hexadecimal without separators.
 use Rattle.std.specs.Prelude.{ℕ, ◌+◌, ◌%◌, Bool, true, false, cond, List, [], ◌∷◌, length, get_or, take, drop, leb, eqb}
-use Rattle.bytes.specs.Bytes.{index_of}
+use Rattle.text_parse.specs.Index.{index_of}
 use Rattle.text_put.specs.Text.{spelled}
 use Rattle.text_digits.specs.Digits.{all_below, hex_byte_at}
 use Rattle.text_parse.specs.Parse.{parsed_of}

@@ -1,6 +1,8 @@
 // The requests of a script, line by line: what a line asks for, and what stands behind its words.
 //
 // The contracts cite `specs/Script.antt`.
+#![tactic(auto)]
+
 ghost use Rattle.std.specs.Prelude.{◌≡◌, ◌+◌, ◌<◌};
 ghost use Rattle.console_script.specs.Script.{first_word, rest_of, lone as Script·lone, same as Script·same, are_bytes, are_words, are_sights, up_to, fresh_request, load_request, load_in, command_request, room_in, command_in, run_request, run_in, range_request, range_in, code_in, key_in, argued_of, plain_of, request_of};
 
@@ -10,7 +12,7 @@ use text_parse::Parsed;
 use text_parts as parts;
 
 // What a line asks for. What follows the numbers, in `Load`, `Command` and `Run`, is found by `rest_of`.
-#[derive(Drop)]
+#[derive(Clone, Copy)]
 pub enum Request {
     Fresh(usize),
     Load(usize),
@@ -29,6 +31,7 @@ pub enum Request {
 }
 
 // The first word of a line.
+#[tactic(auto, unfolding(crate::specs::Script::first_word))]
 fn first_word(line: &[u8]) -> &[u8]
     ensures { result.now ≡ first_word line.now }
 {
@@ -37,6 +40,7 @@ fn first_word(line: &[u8]) -> &[u8]
 }
 
 // What stands behind the first space of a line.
+#[tactic(auto, unfolding(crate::specs::Script::rest_of))]
 pub fn rest_of(line: &[u8]) -> &[u8]
     ensures { result.now ≡ rest_of line.now }
 {
@@ -46,6 +50,7 @@ pub fn rest_of(line: &[u8]) -> &[u8]
 }
 
 // Whether a line is one word.
+#[tactic(auto, unfolding(crate::specs::Script::lone))]
 fn lone(line: &[u8]) -> bool
     ensures { result ≡ Script·lone line.now }
 {
@@ -53,6 +58,7 @@ fn lone(line: &[u8]) -> bool
 }
 
 // Whether two texts are the same.
+#[tactic(auto, using(crate::proofs::Laws::lengths_differ, crate::proofs::Laws::letters_differ, crate::proofs::Laws::letters_agree), unfolding(crate::specs::Script::same))]
 fn same(a: &[u8], b: &[u8]) -> bool
     ensures { result ≡ Script·same a.now b.now }
 {
@@ -70,6 +76,7 @@ fn same(a: &[u8], b: &[u8]) -> bool
 }
 
 // Whether a text is bytes of two digits each.
+#[tactic(auto, unfolding(crate::specs::Script::are_bytes))]
 fn is_bytes(text: &[u8]) -> bool
     ensures { result ≡ are_bytes text.now }
 {
@@ -83,6 +90,7 @@ fn is_bytes(text: &[u8]) -> bool
 }
 
 // Whether a text is words of four digits each.
+#[tactic(auto, unfolding(crate::specs::Script::are_words))]
 fn is_words(text: &[u8]) -> bool
     ensures { result ≡ are_words text.now }
 {
@@ -96,6 +104,7 @@ fn is_words(text: &[u8]) -> bool
 }
 
 // Whether a text is sights of one digit each.
+#[tactic(auto, unfolding(crate::specs::Script::are_sights))]
 fn is_sights(text: &[u8]) -> bool
     ensures { result ≡ are_sights text.now }
 {
@@ -140,6 +149,7 @@ fn load_by(size: Parsed) -> Request
 }
 
 // What stands behind `load`.
+#[tactic(auto, unfolding(crate::specs::Script::load_in))]
 fn load_of(rest: &[u8]) -> Request
     ensures { result ≡ load_in rest.now }
 {
@@ -159,6 +169,7 @@ fn command_by(code: u8, room: Parsed) -> Request
 }
 
 // What stands behind a command's code.
+#[tactic(auto, unfolding(crate::specs::Script::room_in))]
 fn room_of(code: u8, rest: &[u8]) -> Request
     ensures { result ≡ room_in code rest.now }
 {
@@ -172,6 +183,7 @@ fn room_of(code: u8, rest: &[u8]) -> Request
 }
 
 // What stands behind `command`.
+#[tactic(auto, unfolding(crate::specs::Script::command_in))]
 fn command_of(rest: &[u8]) -> Request
     ensures { result ≡ command_in rest.now }
 {
@@ -195,6 +207,7 @@ fn run_by(room: Parsed) -> Request
 }
 
 // What stands behind `run`.
+#[tactic(auto, unfolding(crate::specs::Script::run_in))]
 fn run_of(rest: &[u8]) -> Request
     ensures { result ≡ run_in rest.now }
 {
@@ -220,6 +233,7 @@ fn words_by(from: Parsed, count: Parsed) -> Request
 }
 
 // What stands behind `words`.
+#[tactic(auto, unfolding(crate::specs::Script::range_in))]
 fn words_of(rest: &[u8]) -> Request
     ensures { result ≡ range_in rest.now }
 {
@@ -230,6 +244,7 @@ fn words_of(rest: &[u8]) -> Request
 }
 
 // The key of a code in two digits.
+#[tactic(auto, unfolding(crate::specs::Script::code_in))]
 fn code_of(rest: &[u8]) -> Request
     ensures { result ≡ code_in rest.now }
 {
@@ -243,6 +258,7 @@ fn code_of(rest: &[u8]) -> Request
 }
 
 // What stands behind `key`.
+#[tactic(auto, unfolding(crate::specs::Script::key_in))]
 fn key_of(rest: &[u8]) -> Request
     ensures { result ≡ key_in rest.now }
 {
@@ -259,6 +275,7 @@ fn key_of(rest: &[u8]) -> Request
 }
 
 // A request with arguments, by its first word.
+#[tactic(auto, unfolding(crate::specs::Script::argued_of))]
 fn argued_of(word: &[u8], rest: &[u8]) -> Request
     ensures { result ≡ argued_of word.now rest.now }
 {
@@ -284,6 +301,7 @@ fn argued_of(word: &[u8], rest: &[u8]) -> Request
 }
 
 // A request of a line that is not passed over.
+#[tactic(auto, unfolding(crate::specs::Script::plain_of))]
 fn plain_of(line: &[u8]) -> Request
     ensures { result ≡ plain_of line.now }
 {
@@ -306,6 +324,7 @@ fn plain_of(line: &[u8]) -> Request
 }
 
 // What a line asks for.
+#[tactic(auto, unfolding(crate::specs::Script::request_of))]
 pub fn request_of(line: &[u8]) -> Request
     ensures { result ≡ request_of line.now }
 {

@@ -9,7 +9,7 @@ use native.Mathlib.Nat.{add-suc}
 use lib.ListN.{length, take, drop, length-append, length-take}
 use lib.Seq.{take-nil, drop-nil, take_all, take-take, take_at, drop_at, take-append-le, take-append-add, drop-append-add}
 use lib.Dec.{eqb}
-use Rattle.bytes.specs.Bytes.{index_of, index_after}
+use Rattle.text_parse.specs.Index.{index_of, index_after}
 use Rattle.text_parse.proofs.Index.{index_behind, index_within, index_kept, none_first}
 use Rattle.device_2250.specs.declared.Device.{Device}
 use Rattle.console_session.specs.Session.{Said, said_of}

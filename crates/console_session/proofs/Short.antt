@@ -33,7 +33,6 @@ use Rattle.unit_commands.specs.Commands.{CommandValues, CommandEnd, reset, read_
 use Rattle.unit_cursor.specs.Cursor.{Buffer, any_set}
 use Rattle.unit_head.specs.Head.{DisplayUnit, size_in, buffer_of}
 use Rattle.unit_head.specs.declared.Head.{Head}
-use Rattle.unit_head.specs.declared.State.{State}
 use Rattle.unit_loading.specs.Loading.{LoadValues, unit_load}
 use Rattle.console_run.specs.Pair.{RunValues, pair_run}
 use Rattle.console_run.proofs.Laws.{pair_long}

@@ -1,6 +1,6 @@
 -- A whole script: "One request a line"; "Before the first `fresh` or `load` the unit is a fresh one of 4,096."
 use Rattle.std.specs.Prelude.{ℕ, cond, List, [], ◌∷◌, ◌++◌, take, eqb}
-use Rattle.bytes.specs.Bytes.{index_of}
+use Rattle.text_parse.specs.Index.{index_of}
 use Rattle.ground_setup.specs.declared.Size.TheVariants.{K4}
 use Rattle.device_2250.specs.Device.{fresh_of}
 use Rattle.device_2250.specs.declared.Device.{Device}
@@ -11,7 +11,7 @@ unfoldable pub first_line : List ℕ → List ℕ
 first_line script = take (index_of 10 script) script
 
 -- the lines of a script: each ends at its newline, and the last may want its own. Every other byte is one of its line's, a carriage
--- return too; no request has one, so that such a line is an error unless it begins with `#` (`console_script`, specs/Cases.antt)
+-- return too; no request has one, so that such a line is an error unless it begins with `#` (`console_script`, proofs/Cases.antt)
 abbrev pub joined : ℕ → List (List ℕ) → List (List ℕ)
 joined byte [] = (byte ∷ []) ∷ []
 joined byte (line ∷ lines) = (byte ∷ line) ∷ lines

@@ -1,6 +1,8 @@
 // The console's requests, each answered by the unit: the device after it, and its answer put into a buffer that the caller lends.
 //
 // The contracts cite `specs/Session.antt`.
+#![tactic(auto)]
+
 ghost use Rattle.std.specs.Prelude.{[], ◌*◌, ◌≤◌, length, replicate};
 ghost use Rattle.console_replies.specs.Replies.{ok_line, error_line};
 ghost use Rattle.ground_refusals.specs.Refusals.{refusal_number};
@@ -32,7 +34,7 @@ use unit_commands::Reply;
 use unit_loading::LoadReply;
 
 // The device after a request, and where its answer ends.
-#[derive(Drop)]
+#[derive(Clone, Copy)]
 pub struct Spoken {
     pub device: Device,
     pub end: usize,
@@ -64,6 +66,7 @@ fn wrong(device: Device, lines: &mut [u8], at: usize) -> Spoken
 }
 
 // A line that is passed over.
+#[tactic(auto, using(text_put::proofs::Laws::put_no_text))]
 fn passed_over(device: Device, lines: &mut [u8], at: usize) -> Spoken
     ensures { Speaks (said device []) lines.old at lines.new result }
 {
@@ -280,6 +283,7 @@ fn show_words(device: Device, from: usize, count: usize, lines: &mut [u8], at: u
 }
 
 // Answers a request of a line.
+#[tactic(auto, using(crate::proofs::Laws::rest_shorter))]
 fn answer_by(device: Device, line: &[u8], request: Request, lines: &mut [u8], at: usize) -> Spoken
     requires { (length line.now ≤ 40000) × Fits request }
     ensures { Speaks (said_by device line.now request) lines.old at lines.new result }
@@ -311,6 +315,7 @@ fn answer_by(device: Device, line: &[u8], request: Request, lines: &mut [u8], at
 }
 
 // Answers a line of a script: the unit after it, and its answer put into the buffer from a place on.
+#[tactic(auto, using(crate::proofs::Laws::said_short, crate::proofs::Laws::said_long, crate::proofs::Fits::request_fits))]
 pub fn answer(device: Device, line: &[u8], lines: &mut [u8], at: usize) -> Spoken
     ensures { Speaks (said_of device line.now) lines.old at lines.new result }
 {

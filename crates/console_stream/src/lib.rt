@@ -1,12 +1,15 @@
 // The console over standard input and output: read a piece, answer its lines, write the answers; at the end of the input, close.
 //
 // The contracts cite `specs/Stream.antt`.
+#![tactic(auto)]
+
 ghost use Rattle.std.specs.Prelude.{◌≤◌, length};
 ghost use Rattle.console_stream.specs.Stream.{Conveys, Holding, Holds};
 
 use console_dialogue as dialogue;
 use console_dialogue::Dialogue;
 use console_intake::LINE;
+use std::io::Stdin;
 use text_input as input;
 use text_input::Came;
 use text_output as output;
@@ -16,13 +19,14 @@ use text_stream as stream;
 use text_stream::{Ending, Streamed};
 
 // Where the dialogue and the output stand behind a piece.
-#[derive(Drop)]
+#[derive(Clone, Copy)]
 struct Conveyed {
     dialogue: Dialogue,
     output: Output,
 }
 
 // Feeds a piece, and writes its answers as often as the buffer is full.
+#[tactic(auto, using(crate::proofs::Laws::conveys_none, crate::proofs::Laws::conveys_all))]
 fn convey(
     dialogue: Dialogue,
     kept: &mut [u8; LINE],
@@ -50,6 +54,7 @@ fn convey(
 
 // Ends the dialogue at the end of the input: the last line is answered where it wants its newline. That an input cannot be read is told, and
 // the line that is open has no answer.
+#[tactic(auto, using(text_stream::proofs::Laws::closed_ends, crate::proofs::Laws::holding_closed))]
 fn finish(
     came: Came,
     dialogue: Dialogue,
@@ -74,7 +79,8 @@ fn finish(
 }
 
 // Answers the input, piece by piece.
-fn hold_in(buffer: &mut [u8], kept: &mut [u8; LINE], out: &mut [u8]) -> Streamed
+#[tactic(auto, using(crate::proofs::Laws::holding_first))]
+fn hold_in(stdin: Stdin, buffer: &mut [u8], kept: &mut [u8; LINE], out: &mut [u8]) -> Streamed
     requires { (length buffer.old ≤ 65536) × (487600 ≤ length out.old) }
     ensures { Holds result }
 {
@@ -85,7 +91,7 @@ fn hold_in(buffer: &mut [u8], kept: &mut [u8; LINE], out: &mut [u8]) -> Streamed
     };
     let mut count = 0;
     while count < usize::MAX - 65537 {
-        let came = input::read(buffer);
+        let came = input::read(stdin, buffer);
         let Came::Bytes(n) = came else {
             return finish(came, state, kept, out, output, count);
         };
@@ -109,11 +115,11 @@ fn hold_in(buffer: &mut [u8], kept: &mut [u8; LINE], out: &mut [u8]) -> Streamed
 }
 
 // Answers the lines of standard input with one unit, a fresh one of 4,096.
-pub fn hold() -> Streamed
+pub fn hold(stdin: Stdin) -> Streamed
     ensures { Holds result }
 {
     let mut buffer = [0u8; 65536];
     let mut kept = [0u8; LINE];
     let mut out = [0u8; 524288];
-    hold_in(&mut buffer, &mut kept, &mut out)
+    hold_in(stdin, &mut buffer, &mut kept, &mut out)
 }

@@ -1,0 +1,10 @@
+use Rattle.text_put.proofs.Laws.{behind}
+use Rattle.console_replies.proofs.put_ran.Goals as goal
+
+pub returns : goal.returns
+returns c =
+    let p = behind _ _ _ _ _ _ _ _ (behind _ _ _ _ _ _ _ _ (behind _ _ _ _ _ _ _ _ (c.put_named-first.ensures.value, c.put_named-first.ensures.buffer_after)
+    (c.put_named-second.ensures.value, c.put_named-second.ensures.buffer_after))
+    (c.put_named-third.ensures.value, c.put_named-third.ensures.buffer_after))
+    (c.put.ensures.value, c.put.ensures.buffer_after) in
+    record { value = p.0; buffer_after = p.1 }
