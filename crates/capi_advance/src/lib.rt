@@ -2,6 +2,8 @@
 // is one number; the steps done, and the address and the place of the beam behind them, are put into four numbers lent.
 //
 // The contract cites `specs/Advancing.antt`.
+#![tactic(auto)]
+
 ghost use Rattle.std.specs.Prelude.{◌≡◌};
 ghost use Rattle.unit_advance.specs.Advance.{advance_values};
 ghost use Rattle.capi_started.specs.Started.{start_of};

@@ -1,4 +1,6 @@
 // What the calls for other languages answer, packed into one number.
+#![tactic(auto)]
+
 ghost use Rattle.std.specs.Prelude.{◌≡◌};
 ghost use Rattle.ground_refusals.specs.Refusals.{refusal_number};
 ghost use Rattle.capi_packed.specs.Packed.{refused_number};

@@ -2,6 +2,8 @@
 // number, and the steps done and the items listed are put into two numbers lent.
 //
 // The contract cites `specs/Running.antt`.
+#![tactic(auto)]
+
 ghost use Rattle.std.specs.Prelude.{◌≡◌};
 ghost use Rattle.console_run.specs.Pair.{run_values};
 ghost use Rattle.capi_started.specs.Started.{start_of};

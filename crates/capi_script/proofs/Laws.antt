@@ -6,7 +6,7 @@ use native.Mathlib.Omega.{arith}
 use native.Mathlib.Decide.{dec_lt}
 use lib.ListN.{length, drop, length-drop, drop_of_length-le}
 use lib.Seq.{drop-drop}
-use Rattle.bytes.specs.Bytes.{index_of}
+use Rattle.text_parse.specs.Index.{index_of}
 use Rattle.text_put.specs.Text.{end_of}
 use Rattle.text_put.proofs.Laws.{Puts, put_no_text, behind}
 use Rattle.ground_setup.specs.declared.Size.TheVariants.{K4}

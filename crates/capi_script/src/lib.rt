@@ -1,8 +1,10 @@
 // A whole script in memory, answered by one unit, for programs in other languages.
 //
 // The contracts cite `Play.antt` of `console_session`.
+#![tactic(auto)]
+
 ghost use Rattle.std.specs.Prelude.{◌≡◌, ◌+◌, min, length};
-ghost use Rattle.bytes.specs.Bytes.{index_of};
+ghost use Rattle.text_parse.specs.Index.{index_of};
 ghost use Rattle.text_put.specs.Text.{put_at, end_of};
 ghost use Rattle.console_session.specs.Play.{first_line, play_of};
 ghost use Rattle.console_session.specs.Session.{said_of, Speaks};
@@ -16,6 +18,7 @@ use text_parse as parse;
 use text_parts as parts;
 
 // The first line.
+#[tactic(auto, unfolding(console_session::specs::Play::first_line))]
 fn first_line(rest: &[u8]) -> &[u8]
     ensures { result.now ≡ first_line rest.now }
 {
@@ -40,6 +43,7 @@ fn answer_first(device: Device, rest: &[u8], out: &mut [u8], at: usize) -> Spoke
 
 // Plays a script on a fresh unit of 4,096: the answers of its lines stand one behind the other at the front of the buffer.
 #[unsafe(no_mangle)]
+#[tactic(auto, using(crate::proofs::Laws::playing_first))]
 pub extern "C" fn khaonuat_script(script: &[u8], out: &mut [u8]) -> usize
     ensures value { result ≡ end_of out.old 0 (play_of script.now) }
     ensures out_after { out.new ≡ put_at out.old 0 (play_of script.now) }

@@ -2,6 +2,8 @@
 // address by its command.
 //
 // The contracts cite `specs/Started.antt`.
+#![tactic(auto)]
+
 ghost use Rattle.std.specs.Prelude.{◌≡◌};
 ghost use Rattle.device_2250.specs.Device.{unit_of};
 ghost use Rattle.unit_commands.specs.Commands.{command_values};
@@ -15,14 +17,14 @@ use unit_commands::Reply;
 use unit_loading::LoadReply;
 
 // Whether the unit stands ready to run: loading it and starting it were not refused.
-#[derive(Drop)]
+#[derive(Clone, Copy)]
 pub enum StartReply {
     Ready,
     Refused(Refusal),
 }
 
 // The unit after its start, and the answer.
-#[derive(Drop)]
+#[derive(Clone, Copy)]
 pub struct Started {
     pub device: Device,
     pub answer: StartReply,

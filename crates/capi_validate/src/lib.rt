@@ -1,6 +1,8 @@
 // The validator for programs in other languages: its answer in one number.
 //
 // The contract cites `specs/Told.antt`.
+#![tactic(auto)]
+
 ghost use Rattle.std.specs.Prelude.{◌≡◌, length};
 ghost use Rattle.validator_verdict.specs.Verdict.{verdict_values, tried_of};
 ghost use Rattle.capi_validate.specs.Told.{verdict_number, VerdictTold};
