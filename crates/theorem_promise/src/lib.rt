@@ -1,1 +1,3 @@
 // Theorems only: what a passed image promises a unit, and that no fault is a false alarm. What they say stands in `specs/`.
+
+#![tactic(auto)]
