@@ -1,6 +1,8 @@
 // Drives one unit from a script on standard input and prints the answers.
+#![tactic(auto)]
+
 use console_stream as stream;
 
-fn main() {
-    stream::hold();
+fn main(rt: HostRuntime) {
+    stream::hold(rt.stdin());
 }

@@ -1,6 +1,8 @@
 // The program console on another input.
+#![tactic(auto)]
+
 use console_stream as stream;
 
-fn main() {
-    stream::hold();
+fn main(rt: HostRuntime) {
+    stream::hold(rt.stdin());
 }

@@ -1,6 +1,8 @@
 // The program verdict on another input.
+#![tactic(auto)]
+
 use record_stream as stream;
 
-fn main() {
-    stream::list();
+fn main(rt: HostRuntime) {
+    stream::list(rt.stdin());
 }

@@ -1,6 +1,8 @@
 // Reads records from standard input and prints a line for each.
+#![tactic(auto)]
+
 use record_stream as stream;
 
-fn main() {
-    stream::list();
+fn main(rt: HostRuntime) {
+    stream::list(rt.stdin());
 }

@@ -2,12 +2,16 @@
 // arguments and an image that no record can hold are told in one line on standard error, and nothing is written then.
 //
 // The contracts cite `specs/Wrap.antt`; what no contract can say is which bytes the system gives and takes.
+#![tactic(auto)]
+
 ghost use Rattle.std.specs.Prelude.{◌-◌, ◌≤◌, min, ◌≡◌, true, length, take};
 ghost use Rattle.text_input.specs.Input.{CameWithin};
 ghost use Rattle.text_put.specs.Text.{put_at, end_of};
 ghost use Rattle.wrap.specs.Wrap.{argument_of, asked_of, read_on, complaint_line, wrapped_of, WrappedPut, ReadWithin, ReadFor, Wraps};
 
 use record_make as making;
+use std::env::{Env, FillError};
+use std::io::Stdin;
 use text_input as input;
 use text_input::Came;
 use text_output as output;
@@ -18,14 +22,14 @@ use text_parts as parts;
 use text_put as text;
 
 // SIZE or START, as it was given.
-#[derive(Drop)]
+#[derive(Clone, Copy)]
 enum Argument {
     Is(u16),
     Wrong,
 }
 
 // What is wrong with the arguments or the image.
-#[derive(Drop)]
+#[derive(Clone, Copy)]
 enum Complaint {
     // There are not two arguments.
     Usage,
@@ -40,14 +44,14 @@ enum Complaint {
 }
 
 // What the arguments ask.
-#[derive(Drop)]
+#[derive(Clone, Copy)]
 enum Asked {
     Wrap { size: u16, start: u16 },
     Wrong(Complaint),
 }
 
 // What the input is.
-#[derive(Drop)]
+#[derive(Clone, Copy)]
 enum Input {
     // An image of so many bytes, which stand at the front of the space.
     Image(usize),
@@ -55,7 +59,7 @@ enum Input {
 }
 
 // Where the reading of an image stands.
-#[derive(Drop)]
+#[derive(Clone, Copy)]
 enum Stand {
     // So many bytes stand in the space, and there may be more.
     More(usize),
@@ -63,14 +67,14 @@ enum Stand {
 }
 
 // Where the texts for standard output and standard error end in their buffers.
-#[derive(Drop)]
+#[derive(Clone, Copy)]
 struct Lengths {
     output: usize,
     error: usize,
 }
 
 // What was read, how many bytes were told on standard error, and what became of standard output.
-#[derive(Drop)]
+#[derive(Clone, Copy)]
 struct Report {
     input: Input,
     told: usize,
@@ -110,12 +114,12 @@ fn asked_of(count: usize, size: &[u8], start: &[u8]) -> Asked
 }
 
 // One read into the space, behind the bytes that stand there.
-fn read_behind(space: &mut [u8], end: usize) -> Came
+fn read_behind(stdin: Stdin, space: &mut [u8], end: usize) -> Came
     requires { end ≤ length space.old }
     ensures came_within { CameWithin (length space.old - end) result }
     ensures space_unchanged { take end space.new ≡ take end space.old }
 {
-    input::read(&mut space[end..])
+    input::read(stdin, &mut space[end..])
 }
 
 // Where the reading stands after one more read.
@@ -137,13 +141,14 @@ fn read_on(room: usize, end: usize, came: Came) -> Stand
 }
 
 // Reads an image into the space, which a record's image never fills.
-fn read_image(space: &mut [u8]) -> Input
+#[tactic(auto, using(crate::proofs::Laws::further))]
+fn read_image(stdin: Stdin, space: &mut [u8]) -> Input
     ensures { ReadWithin (length space.old) result }
 {
     let room = space.len();
     let mut end = 0;
     while end < room {
-        let came = read_behind(space, end);
+        let came = read_behind(stdin, space, end);
         match read_on(room, end, came) {
             Stand::More(next) => end = next,
             Stand::Done(input) => return input,
@@ -153,11 +158,11 @@ fn read_image(space: &mut [u8]) -> Input
 }
 
 // Reads the image, where the arguments ask for it.
-fn read_asked(asked: Asked, space: &mut [u8]) -> Input
+fn read_asked(stdin: Stdin, asked: Asked, space: &mut [u8]) -> Input
     ensures { ReadFor asked (length space.old) result }
 {
     match asked {
-        Asked::Wrap { size: _, start: _ } => read_image(space),
+        Asked::Wrap { size: _, start: _ } => read_image(stdin, space),
         Asked::Wrong(complaint) => Input::Wrong(complaint),
     }
 }
@@ -235,6 +240,7 @@ fn write_first(out: &[u8], n: usize) -> Output
 
 // From the arguments, counted with the program's own name, and the input to what is written.
 fn wrap_in(
+    stdin: Stdin,
     count: usize,
     size: &[u8],
     start: &[u8],
@@ -245,7 +251,7 @@ fn wrap_in(
     ensures { Wraps (asked_of count size.now start.now) space.new out.new line.new result }
 {
     let asked = asked_of(count, size, start);
-    let input = read_asked(asked, space);
+    let input = read_asked(stdin, asked, space);
     let lengths = put_wrapped(out, line, asked, input, space);
     let told = tell_first(line, lengths.error);
     let output = write_first(out, lengths.output);
@@ -256,17 +262,40 @@ fn wrap_in(
     }
 }
 
+// How many arguments there are, the program's own name among them.
+fn arguments(env: &impl Env) -> usize {
+    let mut first = [0u8; 1];
+    for at in 0..usize::MAX {
+        if let Err(FillError::NotPresent) = env.arg(at, &mut first) {
+            return at;
+        }
+    }
+    usize::MAX
+}
+
+// Puts an argument at the front of a buffer, and answers where it ends: of one that is longer than the buffer its first bytes stand there.
+fn put_argument(env: &impl Env, at: usize, buffer: &mut [u8]) -> usize
+    ensures { result ≤ length buffer.old }
+{
+    match env.arg(at, buffer) {
+        Ok(end) => end,
+        Err(FillError::TooLong) => buffer.len(),
+        Err(FillError::NotPresent) => 0,
+    }
+}
+
 // Lends the memory, and asks the system for the arguments.
-fn main() {
+fn main(rt: HostRuntime) {
     let mut size = [0u8; 16];
     let mut start = [0u8; 16];
     let mut space = [0u8; 65536];
     let mut out = [0u8; 65546];
     let mut line = [0u8; 64];
-    let size_end = os::arg(1, &mut size);
-    let start_end = os::arg(2, &mut start);
+    let size_end = put_argument(&rt, 1, &mut size);
+    let start_end = put_argument(&rt, 2, &mut start);
     wrap_in(
-        os::arg_count(),
+        rt.stdin(),
+        arguments(&rt),
         parts::first(&size, size_end),
         parts::first(&start, start_end),
         &mut space,
