@@ -11,22 +11,27 @@ ghost use Rattle.capi_advance.specs.Advancing.{advance_call, advanced_number, ad
 
 use capi_packed as packed;
 use capi_started as started;
-use capi_started::StartReply;
-use unit_advance as advance;
-use unit_advance::AdvanceReply;
+use ground_refusals::Refusal;
+use unit_advance::Advanced;
 use unit_head::State;
 
 // The number that answers advancing, and where it has come to.
-fn advanced_number(state: State, answer: AdvanceReply, place: &mut [usize; 4]) -> u64
+// A number: the C interface's.
+fn advanced_number(state: State, answer: Result<Advanced, Refusal>, place: &mut [usize; 4]) -> u64
     ensures { (result ≡ advanced_number (advance_values answer)) × (place.new ≡ advanced_place state (advance_values answer) place.old) }
 {
     match answer {
-        AdvanceReply::Done(steps, end) => {
+        Ok(advanced) => {
             let beam = state.beam;
-            *place = [steps, state.address, beam.x as usize, beam.y as usize];
-            packed::wide(advance::end_number(end))
+            *place = [
+                advanced.steps,
+                state.address,
+                beam.x as usize,
+                beam.y as usize,
+            ];
+            packed::wide(u8::from(advanced.end))
         }
-        AdvanceReply::Refused(refusal) => packed::refused(refusal),
+        Err(refusal) => packed::refused(refusal),
     }
 }
 
@@ -42,17 +47,10 @@ pub extern "C" fn khaonuat_advance(
 ) -> u64
     ensures { advance_call result place.new ≡ advance_started (start_of size dump.now start closed) sights.now place.old }
 {
-    let begun = started::start_dump(dump, size as usize, start, closed);
-    let answer = begun.answer;
-    let unit = begun.device;
-    match answer {
-        StartReply::Refused(refusal) => packed::refused(refusal),
-        StartReply::Ready => {
-            let head = unit.head;
-            let gone = advance::advance(&unit.words, head, sights);
-            let after = gone.head;
-            let reply = gone.answer;
-            advanced_number(after.state, reply, place)
-        }
+    let (mut unit, answer) = started::start_dump(dump, size as usize, start, closed);
+    if let Err(refusal) = answer {
+        return packed::refused(refusal);
     }
+    let advanced = unit.advance(sights);
+    advanced_number(unit.head.state, advanced, place)
 }

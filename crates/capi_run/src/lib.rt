@@ -11,20 +11,21 @@ ghost use Rattle.capi_run.specs.Running.{run_call, ran_number, ran_counts, run_s
 
 use capi_packed as packed;
 use capi_started as started;
-use capi_started::StartReply;
 use console_run as run;
-use console_run::RunReply;
+use console_run::Ran;
+use ground_refusals::Refusal;
 
 // The number that answers a run, and its steps and items.
-fn ran_number(ran: RunReply, counts: &mut [usize; 2]) -> u64
-    ensures { (result ≡ ran_number (run_values ran)) × (counts.new ≡ ran_counts (run_values ran) counts.old) }
+// A number: the C interface's.
+fn ran_number(answer: Result<Ran, Refusal>, counts: &mut [usize; 2]) -> u64
+    ensures { (result ≡ ran_number (run_values answer)) × (counts.new ≡ ran_counts (run_values answer) counts.old) }
 {
-    match ran {
-        RunReply::Done(steps, outcome, items) => {
-            *counts = [steps, items];
-            packed::wide(run::outcome_number(outcome))
+    match answer {
+        Ok(ran) => {
+            *counts = [ran.steps, ran.items];
+            packed::wide(u8::from(ran.outcome))
         }
-        RunReply::Refused(refusal) => packed::refused(refusal),
+        Err(refusal) => packed::refused(refusal),
     }
 }
 
@@ -41,16 +42,10 @@ pub extern "C" fn khaonuat_run(
 ) -> u64
     ensures { run_call result items.new counts.new ≡ run_started (start_of size dump.now start closed) sights.now items.old counts.old }
 {
-    let begun = started::start_dump(dump, size as usize, start, closed);
-    let answer = begun.answer;
-    let unit = begun.device;
-    match answer {
-        StartReply::Refused(refusal) => packed::refused(refusal),
-        StartReply::Ready => {
-            let head = unit.head;
-            let ran = run::run(&unit.words, head, sights, items);
-            let reply = ran.answer;
-            ran_number(reply, counts)
-        }
+    let (mut unit, answer) = started::start_dump(dump, size as usize, start, closed);
+    if let Err(refusal) = answer {
+        return packed::refused(refusal);
     }
+    let ran = run::run(&unit.words, &mut unit.head, sights, items);
+    ran_number(ran, counts)
 }

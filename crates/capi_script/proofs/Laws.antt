@@ -12,7 +12,6 @@ use Rattle.text_put.proofs.Laws.{Puts, put_no_text, behind}
 use Rattle.ground_setup.specs.declared.Size.TheVariants.{K4}
 use Rattle.device_2250.specs.Device.{fresh_of}
 use Rattle.device_2250.specs.declared.Device.{Device}
-use Rattle.console_session.specs.declared.Spoken.{Spoken}
 use Rattle.console_session.specs.Session.{said_of, Speaks}
 use Rattle.console_session.specs.Play.{first_line, lines_of, answers_of, play_of}
 use Rattle.console_session.proofs.Play.{first_and_rest}
@@ -45,15 +44,15 @@ playing_first out script d e =
       rest = ap (λ (d : Device). answers_of d (lines_of script)) e;
     }
 
-pub playing_next : (out₀ script out after : List ℕ) (d : Device) (from end used : ℕ) (rest : List ℕ) (told : Spoken)
+pub playing_next : (out₀ script out after : List ℕ) (d : Device) (from end used : ℕ) (rest : List ℕ) (left : Device) (ends : ℕ)
     → from < length script
     → rest ≡ drop from script
     → used ≡ min (index_of 10 rest + 1) (length rest)
-    → Speaks (said_of d (first_line rest)) out end after told
+    → Speaks (said_of d (first_line rest)) out end after left ends
     → Playing out₀ script out d from end
-    → Playing out₀ script after told.device (from + used) told.end
+    → Playing out₀ script after left (from + used) ends
 unfolding first_line answers_of
-playing_next out₀ script out after d from end used rest told h e u speaks p =
+playing_next out₀ script out after d from end used rest left ends h e u speaks p =
     let s = said_of d (first_line rest) in
     let some : 0 < length rest = omega (arith, ap (length {A = ℕ}) e, length-drop from script) in
     let there : drop (from + used) script ≡ drop (suc (index_of 10 rest)) rest =
@@ -62,9 +61,9 @@ playing_next out₀ script out after d from end used rest told h e u speaks p =
     ap (answers_of d) (sym (first_and_rest rest some)) in
     record {
       text = p.text ++ s.text;
-      put = behind out₀ 0 p.text s.text end told.end out after p.put (speaks.end, speaks.lines);
+      put = behind out₀ 0 p.text s.text end ends out after p.put (speaks.end, speaks.lines);
       rest =
-          append_assoc p.text s.text (answers_of told.device (lines_of (drop (from + used) script)))
+          append_assoc p.text s.text (answers_of left (lines_of (drop (from + used) script)))
           ∙ ap (λ (d : Device). p.text ++ (s.text ++ answers_of d (lines_of (drop (from + used) script)))) speaks.device
           ∙ ap (λ (l : List ℕ). p.text ++ (s.text ++ answers_of s.device (lines_of l))) there
           ∙ ap (λ (l : List ℕ). p.text ++ l) lines

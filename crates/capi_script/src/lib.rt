@@ -10,8 +10,6 @@ ghost use Rattle.console_session.specs.Play.{first_line, play_of};
 ghost use Rattle.console_session.specs.Session.{said_of, Speaks};
 
 use console_session as session;
-use console_session::Spoken;
-use device_2250 as device;
 use device_2250::Device;
 use ground_setup::Size;
 use text_parse as parse;
@@ -35,8 +33,8 @@ fn with_newline(rest: &[u8]) -> usize
 }
 
 // Answers the first line.
-fn answer_first(device: Device, rest: &[u8], out: &mut [u8], at: usize) -> Spoken
-    ensures { Speaks (said_of device (first_line rest.now)) out.old at out.new result }
+fn answer_first(device: &mut Device, rest: &[u8], out: &mut [u8], at: usize) -> usize
+    ensures { Speaks (said_of device.old (first_line rest.now)) out.old at out.new device.new result }
 {
     session::answer(device, first_line(rest), out, at)
 }
@@ -48,14 +46,13 @@ pub extern "C" fn khaonuat_script(script: &[u8], out: &mut [u8]) -> usize
     ensures value { result ≡ end_of out.old 0 (play_of script.now) }
     ensures out_after { out.new ≡ put_at out.old 0 (play_of script.now) }
 {
-    let mut device = device::fresh(Size::K4);
+    let mut device = Device::fresh(Size::K4);
     let mut from = 0;
     let mut end = 0;
+    // A while: each line has its own length.
     while from < script.len() {
         let rest = parts::behind(script, from);
-        let told = answer_first(device, rest, out, end);
-        device = told.device;
-        end = told.end;
+        end = answer_first(&mut device, rest, out, end);
         from += with_newline(rest);
     }
     end

@@ -1,23 +1,22 @@
 -- A dump loaded into a fresh unit, its switch set, and the unit started by Set Buffer Address and Start.
-use Rattle.std.specs.Prelude.{Bool, List, [], ◌∷◌, ℕ, ◌/◌, ◌%◌}
+use Rattle.std.specs.Prelude.{Bool, List, [], ◌∷◌, ℕ, ◌/◌, ◌%◌, Err, Ok, Result}
 use Rattle.ground_refusals.specs.Refusals.{refusal_number}
+use Rattle.ground_refusals.specs.declared.Refusal.{Refusal}
 use Rattle.ground_setup.specs.declared.Size.TheVariants.{K4}
 use Rattle.unit_head.specs.Head.{DisplayUnit, fresh_unit, switched_unit}
 use Rattle.unit_loading.specs.Loading.{LoadValues, LoadEnd, unit_load}
 use Rattle.unit_commands.specs.Commands.{CommandValues, CommandEnd, unit_command}
 use Rattle.device_2250.specs.Device.{unit_of}
-use Rattle.capi_started.specs.declared.StartReply.{StartReply}
-use Rattle.capi_started.specs.declared.StartReply.TheVariants as reply
-use Rattle.capi_started.specs.declared.Started.{Started}
+use Rattle.device_2250.specs.declared.Device.{Device}
 
 -- the answer: the unit is ready to run, or the number of the refusal
 pub data StartValues : Type 0 where
   ready : StartValues
   refused : ℕ → StartValues
 
-abbrev pub start_values : StartReply → StartValues
-start_values reply.Ready = StartValues.ready
-start_values (reply.Refused r) = StartValues.refused (refusal_number r)
+abbrev pub start_values : Result (Unit {0}) Refusal → StartValues
+start_values (Ok tt) = StartValues.ready
+start_values (Err r) = StartValues.refused (refusal_number r)
 
 -- what is left: the unit and the answer
 pub record StartEnd : Type 0 where
@@ -27,8 +26,8 @@ pub record StartEnd : Type 0 where
 abbrev pub start_end : DisplayUnit → StartValues → StartEnd
 start_end u answer = record { unit = u; answer = answer }
 
-abbrev pub start_leaves : Started → StartEnd
-start_leaves s = start_end (unit_of s.device) (start_values s.answer)
+abbrev pub start_leaves : Device → Result (Unit {0}) Refusal → StartEnd
+start_leaves d r = start_end (unit_of d) (start_values r)
 
 -- the unit started by the command with its two bytes; a command that ends by status is not refused
 abbrev pub starts_at : DisplayUnit → ℕ → CommandEnd

@@ -5,70 +5,51 @@
 #![tactic(auto)]
 
 ghost use Rattle.std.specs.Prelude.{◌≡◌};
+ghost use Rattle.unit_loading.specs.Loading.{unit_load};
 ghost use Rattle.device_2250.specs.Device.{unit_of};
-ghost use Rattle.unit_commands.specs.Commands.{command_values};
-ghost use Rattle.capi_started.specs.Started.{start_values, start_leaves, answer_starts, starts_at, begun_by, start_of};
+ghost use Rattle.capi_started.specs.Started.{start_leaves, starts_at, begun_by, loaded_before, start_of};
 
-use device_2250 as device;
 use device_2250::Device;
 use ground_refusals::Refusal;
 use ground_setup::Size;
-use unit_commands::Reply;
-use unit_loading::LoadReply;
-
-// Whether the unit stands ready to run: loading it and starting it were not refused.
-#[derive(Clone, Copy)]
-pub enum StartReply {
-    Ready,
-    Refused(Refusal),
-}
-
-// The unit after its start, and the answer.
-#[derive(Clone, Copy)]
-pub struct Started {
-    pub device: Device,
-    pub answer: StartReply,
-}
-
-// Whether a start was refused.
-fn start_reply(reply: Reply) -> StartReply
-    ensures { start_values result ≡ answer_starts (command_values reply) }
-{
-    match reply {
-        Reply::Refused(refusal) => StartReply::Refused(refusal),
-        Reply::Status(_, _) => StartReply::Ready,
-    }
-}
 
 // Starts a unit at an address by its command.
-fn start_at(unit: Device, start: u16) -> Started
-    ensures { start_leaves result ≡ begun_by (starts_at (unit_of unit) start) }
+fn start_at(device: &mut Device, start: u16) -> Result<(), Refusal>
+    ensures { start_leaves device.new result ≡ begun_by (starts_at (unit_of device.old) start) }
 {
     let bytes = [(start / 0x100) as u8, (start % 0x100) as u8];
     let mut room = [0u8; 1];
-    let answered = device::command(unit, 0x27, &bytes, &mut room);
-    let reply = answered.answer;
-    let device = answered.device;
-    Started {
-        device: device,
-        answer: start_reply(reply),
-    }
+    device.command(0x27, &bytes, &mut room)?;
+    Ok(())
 }
 
-// Loads a dump into a fresh unit, sets the pen's switch and starts the unit at an address by its command.
-pub fn start_dump(dump: &[u16], size: usize, start: u16, closed: bool) -> Started
-    ensures { start_leaves result ≡ start_of size dump.now start closed }
+// Loads a dump into a unit, sets the pen's switch and starts the unit at an address.
+fn load_and_start(
+    device: &mut Device,
+    dump: &[u16],
+    size: usize,
+    start: u16,
+    closed: bool,
+) -> Result<(), Refusal>
+    ensures { start_leaves device.new result ≡ loaded_before (unit_load (unit_of device.old) size dump.now) start closed }
 {
-    let loaded = device::load(device::fresh(Size::K4), size, dump);
-    let answer = loaded.answer;
-    let device = loaded.device;
-    match answer {
-        LoadReply::Refused(refusal) => {
-            Started {
-                device: device,
-                answer: StartReply::Refused(refusal),
-            }
-        }
-        LoadReply::Done => start_at(device::switch_to(device, closed), start),
-    }
+    device.load(size, dump)?;
+    device.switch_to(closed);
+    start_at(device, start)
+}
+
+// Loads a dump into a fresh unit, sets the pen's switch and starts the unit at an address by its command: the unit, and whether it stands
+// ready to run.
+#[tactic(auto, unfolding(crate::specs::Started::start_of))]
+pub fn start_dump(
+    dump: &[u16],
+    size: usize,
+    start: u16,
+    closed: bool,
+) -> (Device, Result<(), Refusal>)
+    ensures { start_leaves result.0 result.1 ≡ start_of size dump.now start closed }
+{
+    let mut device = Device::fresh(Size::K4);
+    let answer = load_and_start(&mut device, dump, size, start, closed);
+    (device, answer)
 }

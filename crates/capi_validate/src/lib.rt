@@ -8,23 +8,24 @@ ghost use Rattle.validator_verdict.specs.Verdict.{verdict_values, tried_of};
 ghost use Rattle.capi_validate.specs.Told.{verdict_number, VerdictTold};
 
 use capi_packed as packed;
-use ground_look as look;
+use ground_refusals::Refusal;
 use validator_verdict as validator;
 use validator_verdict::Verdict;
 
-// The number that answers a verdict.
-fn verdict_number(verdict: Verdict) -> u64
+// The number that answers a verdict, or a refusal.
+// A number: the C interface's.
+fn verdict_number(verdict: Result<Verdict, Refusal>) -> u64
     ensures { result ≡ verdict_number (verdict_values verdict) }
 {
     match verdict {
-        Verdict::Passed(places) => places as u64 % 0x100000000,
-        Verdict::Fault(fault, at, steps) => {
+        Ok(Verdict::Passed(places)) => places as u64 % 0x100000000,
+        Ok(Verdict::Fault(fault, at, steps)) => {
             0x100000000000000
-                + packed::wide(look::fault_number(fault)) * 0x1000000000000
+                + packed::wide(u8::from(fault)) * 0x1000000000000
                 + at as u64 % 0x10000 * 0x100000000
                 + steps as u64 % 0x100000000
         }
-        Verdict::Refused(refusal) => packed::refused(refusal),
+        Err(refusal) => packed::refused(refusal),
     }
 }
 

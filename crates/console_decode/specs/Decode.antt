@@ -4,7 +4,7 @@ use Rattle.console_phrases.specs.Phrases.{each_of}
 use Rattle.text_digits.specs.Digits.{digit_at, hex_byte_at, hex_word_at}
 
 -- the values of 0, 1, .. as a list, n of them
-abbrev pub decoded : (ℕ → ℕ) → ℕ → List ℕ
+abbrev pub decoded : {X : Type 0} → (ℕ → X) → ℕ → List X
 decoded value n = each_of (λ i. value i ∷ []) n
 
 -- bytes of two digits, words of four, sights of one

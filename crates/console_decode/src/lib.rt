@@ -4,9 +4,9 @@
 // The contracts cite `specs/Decode.antt`.
 #![tactic(auto)]
 
-ghost use Rattle.std.specs.Prelude.{◌≡◌, ◌*◌, length};
+ghost use Rattle.std.specs.Prelude.{◌≡◌, ◌*◌, ◌<◌, ℕ, length};
 ghost use Rattle.text_digits.specs.Digits.{hex_byte_at, hex_word_at};
-ghost use Rattle.console_decode.specs.Decode.{bytes_in, words_in, sights_in};
+ghost use Rattle.console_decode.specs.Decode.{decoded, bytes_in, words_in, sights_in};
 
 use text_digits as digits;
 
@@ -15,10 +15,7 @@ use text_digits as digits;
 fn byte_in(text: &[u8], i: usize) -> u8
     ensures { result ≡ hex_byte_at text.now (2 * i) }
 {
-    if i <= text.len() / 2 {
-        return digits::byte_at(text, 2 * i);
-    }
-    digits::byte_at(text, text.len())
+    digits::byte_at(text, i.saturating_mul(2))
 }
 
 // The word of an index in a text.
@@ -26,41 +23,39 @@ fn byte_in(text: &[u8], i: usize) -> u8
 fn word_in(text: &[u8], i: usize) -> u16
     ensures { result ≡ hex_word_at text.now (4 * i) }
 {
-    if i <= text.len() / 4 {
-        return digits::word_at(text, 4 * i);
+    digits::word_at(text, i.saturating_mul(4))
+}
+
+// Reads the number of each index into a slice.
+#[tactic(auto, using(crate::proofs::Laws::none_read, crate::proofs::Laws::one_more_read))]
+fn read_each<T: Copy, F: Fn(usize) -> T>(out: &mut [T], number: F)
+    ghost value: { ℕ → T }
+    requires may { (i : ℕ) → i < length out.old → F.pre number i }
+    requires is { (i : ℕ) (n : T) → F.post number i n → n ≡ value i }
+    ensures { out.new ≡ decoded value (length out.old) }
+{
+    for (i, slot) in out.iter_mut().enumerate() {
+        *slot = number(i);
     }
-    digits::word_at(text, text.len())
 }
 
 // Reads bytes of two digits each.
 pub fn read_bytes(text: &[u8], out: &mut [u8])
     ensures { out.new ≡ bytes_in text.now (length out.old) }
 {
-    let mut i = 0;
-    while i < out.len() {
-        out[i] = byte_in(text, i);
-        i += 1;
-    }
+    read_each(out, |i| byte_in(text, i))
 }
 
 // Reads words of four digits each.
 pub fn read_words(text: &[u8], out: &mut [u16])
     ensures { out.new ≡ words_in text.now (length out.old) }
 {
-    let mut i = 0;
-    while i < out.len() {
-        out[i] = word_in(text, i);
-        i += 1;
-    }
+    read_each(out, |i| word_in(text, i))
 }
 
 // Reads sights of one digit each.
 pub fn read_sights(text: &[u8], out: &mut [u8])
     ensures { out.new ≡ sights_in text.now (length out.old) }
 {
-    let mut i = 0;
-    while i < out.len() {
-        out[i] = digits::digit_at(text, i);
-        i += 1;
-    }
+    read_each(out, |i| digits::digit_at(text, i))
 }

@@ -14,23 +14,22 @@ use Rattle.text_put.specs.Text.{end_of}
 use Rattle.text_put.proofs.Laws.{Puts, put_no_text, length_put, behind, puts_as}
 use Rattle.device_2250.specs.declared.Device.{Device}
 use Rattle.console_intake.specs.Intake.{open_line, LineFound}
-use Rattle.console_intake.specs.declared.Line.{Line}
-use Rattle.console_intake.specs.declared.Line.TheVariants.{Whole, Open}
+use Rattle.text_pieces.specs.declared.Found.{Found}
+use Rattle.text_pieces.specs.declared.Found.TheVariants.{Whole, Open}
 use Rattle.console_intake.proofs.Laws.{open_none, none_is}
 use Rattle.console_session.specs.Play.{first_line, play_from}
 use Rattle.console_session.specs.Session.{Said, said_of, Speaks}
-use Rattle.console_session.specs.declared.Spoken.{Spoken}
 use Rattle.console_session.proofs.Play.{said_cut, line_ended, line_cut, line_last, no_line}
 use Rattle.console_session.proofs.Short.{said_within}
 use Rattle.console_dialogue.specs.Dialogue.{to_come, Answers, TakesIn, LeavesOver}
 use Rattle.console_dialogue.specs.declared.Dialogue.{Dialogue}
-use Rattle.console_dialogue.specs.declared.Taken.{Taken}
+use Rattle.text_pieces.specs.declared.Fed.{Fed}
 
 abbrev pub dialogue : Device → ℕ → Dialogue
 dialogue d seen = record { device = d; seen = seen }
 
-abbrev pub taken : Dialogue → ℕ → ℕ → Taken
-taken d used end = record { dialogue = d; used = used; end = end }
+abbrev pub fed : ℕ → ℕ → Fed
+fed used end = record { used = used; end = end }
 
 -- no line is open
 pub open_zero : (kept : List ℕ) → open_line 0 kept ≡ []
@@ -70,7 +69,7 @@ answers_joined d e f kept kept₁ kept₂ a b s t p q rest =
     ∙ sym (append_assoc s t (to_come f kept₂ rest))
 
 -- the same with the buffer: nothing yet, a line, the part of one, and one step more
-pub takes_none : (d : Dialogue) (kept piece out : List ℕ) → TakesIn d kept piece out 0 (taken d 0 0) kept out
+pub takes_none : (d : Dialogue) (kept piece out : List ℕ) → TakesIn d kept piece out 0 (fed 0 0) d kept out
 unfolding end_of
 takes_none d kept piece out =
     record {
@@ -82,21 +81,22 @@ takes_none d kept piece out =
       puts = sym (put_no_text out 0);
     }
 
-pub takes_line : (d : Dialogue) (kept kept' piece out out' : List ℕ) (at : ℕ) (direct : Bool) (count used : ℕ) (line : Line) (told : Spoken)
+pub takes_line : (d : Dialogue) (kept kept' piece out out' : List ℕ) (at : ℕ) (direct : Bool) (count used end : ℕ) (line : Found) (given : List ℕ) (left : Device)
     → line ≡ Whole direct count used
     → LineFound (open_line d.seen kept) piece kept' line
     → at + 487600 ≤ length out
-    → Speaks (said_of d.device (take count (cond direct piece kept'))) out at out' told
-    → TakesIn d kept piece out at (taken (dialogue told.device 0) used told.end) kept' out' × (0 < used)
-takes_line d kept kept' piece out out' at direct count used line told e found room speaks =
-    let given : List ℕ = take count (cond direct piece kept') in
+    → given ≡ take count (cond direct piece kept')
+    → Speaks (said_of d.device given) out at out' left end
+    → TakesIn d kept piece out at (fed used end) (dialogue left 0) kept' out' × (0 < used)
+takes_line d kept kept' piece out out' at direct count used end line given left e found room same speaks =
     let said : Said = said_of d.device given in
-    let found = subst (LineFound (open_line d.seen kept) piece kept') e found in (
+    let found = subst (LineFound (open_line d.seen kept) piece kept') e found in
+    let cut : take 40001 given ≡ take 40001 (open_line d.seen kept ++ take (index_of 10 piece) piece) = ap (take 40001) same ∙ found.2 in (
       record {
         text = said.text;
         answers =
             subst (λ (x : Device). Answers d kept (take used piece) said.text (dialogue x 0) kept') (sym speaks.device)
-            (answers_line d.device d.seen kept kept' piece given used found.0 found.1 found.2);
+            (answers_line d.device d.seen kept kept' piece given used found.0 found.1 cut);
         within = found.1;
         room = omega (arith, said_within d.device given);
         ends = speaks.end;
@@ -105,10 +105,10 @@ takes_line d kept kept' piece out out' at direct count used line told e found ro
       omega (arith, found.0),
     )
 
-pub takes_open : (d : Dialogue) (kept kept' piece out : List ℕ) (at seen : ℕ) (line : Line) → line ≡ Open seen
+pub takes_open : (d : Dialogue) (kept kept' piece out : List ℕ) (at seen : ℕ) (line : Found) → line ≡ Open seen
     → LineFound (open_line d.seen kept) piece kept' line
     → at + 487600 ≤ length out
-    → TakesIn d kept piece out at (taken (dialogue d.device seen) (length piece) at) kept' out
+    → TakesIn d kept piece out at (fed (length piece) at) (dialogue d.device seen) kept' out
 unfolding end_of
 takes_open d kept kept' piece out at seen line e found room =
     let found = subst (LineFound (open_line d.seen kept) piece kept') e found in
@@ -123,13 +123,13 @@ takes_open d kept kept' piece out at seen line e found room =
       puts = sym (put_no_text out at);
     }
 
-pub takes_on : (d e : Dialogue) (kept kept₁ kept₂ piece rest out out₁ out₂ : List ℕ) (used end : ℕ) (next : Taken)
-    → TakesIn d kept piece out 0 (taken e used end) kept₁ out₁
+pub takes_on : (d e : Dialogue) (kept kept₁ kept₂ piece rest out out₁ out₂ : List ℕ) (used end : ℕ) (next : Fed) (f : Dialogue)
+    → TakesIn d kept piece out 0 (fed used end) e kept₁ out₁
     → rest ≡ drop used piece
-    → TakesIn e kept₁ rest out₁ end next kept₂ out₂
-    → TakesIn d kept piece out 0 (taken next.dialogue (used + next.used) next.end) kept₂ out₂
+    → TakesIn e kept₁ rest out₁ end next f kept₂ out₂
+    → TakesIn d kept piece out 0 (fed (used + next.used) next.end) f kept₂ out₂
 unfolding end_of
-takes_on d e kept kept₁ kept₂ piece rest out out₁ out₂ used end next p is q =
+takes_on d e kept kept₁ kept₂ piece rest out out₁ out₂ used end next f p is q =
     let size : length out₁ ≡ length out = ap length p.puts ∙ length_put out 0 p.text in
     let left : length rest ≡ length piece - used = ap length is ∙ length-drop used piece in
     let both : take (used + next.used) piece ≡ take used piece ++ take next.used rest =
@@ -140,8 +140,8 @@ takes_on d e kept kept₁ kept₂ piece rest out out₁ out₂ used end next p i
     record {
       text = p.text ++ q.text;
       answers =
-          subst (λ (l : List ℕ). Answers d kept l (p.text ++ q.text) next.dialogue kept₂) (sym both)
-          (answers_joined d e next.dialogue kept kept₁ kept₂ (take used piece) (take next.used rest) p.text q.text p.answers q.answers);
+          subst (λ (l : List ℕ). Answers d kept l (p.text ++ q.text) f kept₂) (sym both)
+          (answers_joined d e f kept kept₁ kept₂ (take used piece) (take next.used rest) p.text q.text p.answers q.answers);
       within = omega (arith, p.within, q.within);
       room = omega (arith, length-append p.text q.text, q.room);
       ends = put.0;
@@ -162,10 +162,10 @@ module _ (d : Dialogue) (kept line : List ℕ) (is : line ≡ open_line d.seen k
   unfolding end_of
   closed_none out none = puts_as out 0 [] (to_come d kept []) 0 out (sym (last_none none)) (omega arith, sym (put_no_text out 0))
 
-  pub closed_line : (out out' : List ℕ) (told : Spoken) → (length line ≡ 0 → ⊥) → Speaks (said_of d.device line) out 0 out' told
-      → Puts out 0 (to_come d kept []) told.end out'
-  closed_line out out' told some speaks =
-      puts_as out 0 (said_of d.device line).text (to_come d kept []) told.end out' (sym (last_said (omega arith)))
+  pub closed_line : (out out' : List ℕ) (left : Device) (end : ℕ) → (length line ≡ 0 → ⊥) → Speaks (said_of d.device line) out 0 out' left end
+      → Puts out 0 (to_come d kept []) end out'
+  closed_line out out' left end some speaks =
+      puts_as out 0 (said_of d.device line).text (to_come d kept []) end out' (sym (last_said (omega arith)))
       (speaks.end, speaks.lines)
 
 pub closed_short : (d : Dialogue) (kept : List ℕ) → length (to_come d kept []) ≤ 487600
@@ -178,14 +178,14 @@ closed_short d kept =
 
 -- a piece that is fed line by line
 pub record Taking (d : Dialogue) (kept piece out : List ℕ) (e : Dialogue) (used end : ℕ) (kept₁ out₁ : List ℕ) : Type 0 where
-  pub takes : TakesIn d kept piece out 0 (taken e used end) kept₁ out₁
+  pub takes : TakesIn d kept piece out 0 (fed used end) e kept₁ out₁
   pub within : used ≤ length piece
   pub free : end ≤ length out
   pub size : length out₁ ≡ length out
   pub first : used ≡ 0 → end ≡ 0
 
 taking : (d e : Dialogue) (kept kept₁ piece out out₁ : List ℕ) (used end : ℕ) → (used ≡ 0 → end ≡ 0)
-    → TakesIn d kept piece out 0 (taken e used end) kept₁ out₁
+    → TakesIn d kept piece out 0 (fed used end) e kept₁ out₁
     → Taking d kept piece out e used end kept₁ out₁
 unfolding end_of
 taking d e kept kept₁ piece out out₁ used end first p =
@@ -201,25 +201,28 @@ pub taking_none : (d : Dialogue) (kept piece out : List ℕ) → Taking d kept p
 taking_none d kept piece out = taking d d kept kept piece out out 0 0 (λ e. refl) (takes_none d kept piece out)
 
 module _ (d e : Dialogue) (kept kept₁ piece out out₁ : List ℕ) (used end : ℕ) (p : Taking d kept piece out e used end kept₁ out₁) where
-  pub taking_next : (kept₂ rest out₂ : List ℕ) (next : Taken) → rest ≡ drop used piece → TakesIn e kept₁ rest out₁ end next kept₂ out₂
+  pub taking_next : (kept₂ rest out₂ : List ℕ) (next : Fed) (f : Dialogue) → rest ≡ drop used piece
+      → TakesIn e kept₁ rest out₁ end next f kept₂ out₂
       → 0 < next.used
-      → Taking d kept piece out next.dialogue (used + next.used) next.end kept₂ out₂
-  taking_next kept₂ rest out₂ next is q some =
-      taking d next.dialogue kept kept₂ piece out out₂ (used + next.used) next.end (λ e. absurd (omega arith))
-      (takes_on d e kept kept₁ kept₂ piece rest out out₁ out₂ used end next p.takes is q)
+      → Taking d kept piece out f (used + next.used) next.end kept₂ out₂
+  taking_next kept₂ rest out₂ next f is q some =
+      taking d f kept kept₂ piece out out₂ (used + next.used) next.end (λ e. absurd (omega arith))
+      (takes_on d e kept kept₁ kept₂ piece rest out out₁ out₂ used end next f p.takes is q)
 
-  -- where an answer might find no room, and at the piece's end
-  pub leaves_full : length out₁ - end < 487600 → LeavesOver piece out (taken e used end)
-  leaves_full full =
+  -- at the piece's end, or where an answer might find no room
+  pub leaves : (used < length piece → length out₁ - end < 487600) → LeavesOver piece out (fed used end)
+  leaves full =
       record {
-        all = λ room. absurd (omega (arith, p.size));
+        all =
+            λ room.
+            elim (dec_lt used (length piece)) [
+              | yes h ↦ absurd (omega (arith, p.size, full h))
+              | no h ↦ omega (arith, p.within)
+            ];
         some =
             λ room piece.
             elim (dec_lt 0 used) [
               | yes h ↦ h
-              | no h ↦ absurd (omega (arith, p.size, p.first (omega arith)))
+              | no h ↦ absurd (omega (arith, p.size, p.first (omega arith), full (omega arith)))
             ];
       }
-
-  pub leaves_none : length piece ≤ used → LeavesOver piece out (taken e used end)
-  leaves_none all = record { all = λ room. omega (arith, p.within); some = λ room piece. omega arith }

@@ -14,7 +14,7 @@ use Rattle.text_parse.proofs.Index.{none_first, none_both}
 use Rattle.text_put.specs.Text.{put_at, end_of}
 use Rattle.text_put.proofs.Laws.{Puts}
 use Rattle.console_intake.specs.Intake.{open_line, LineFound}
-use Rattle.console_intake.specs.declared.Line.TheVariants.{Whole, Open}
+use Rattle.text_pieces.specs.declared.Found.TheVariants.{Whole, Open}
 
 -- the first bytes of what is kept, where no newline is among them
 pub open_is : (seen : ℕ) (kept line : List ℕ) → line ≡ take seen kept → index_of 10 line ≡ length line → line ≡ open_line seen kept

@@ -2,8 +2,8 @@
 -- that is told, so no more than its first 40,001 bytes are kept.
 use Rattle.std.specs.Prelude.{ℕ, ◌+◌, ◌≤◌, ◌≡◌, cond, List, [], ◌++◌, length, take, eqb}
 use Rattle.text_parse.specs.Index.{index_of}
-use Rattle.console_intake.specs.declared.Line.{Line}
-use Rattle.console_intake.specs.declared.Line.TheVariants.{Whole, Open}
+use Rattle.text_pieces.specs.declared.Found.{Found}
+use Rattle.text_pieces.specs.declared.Found.TheVariants.{Whole, Open}
 
 -- the open line, as far as it is kept: the first bytes of those kept. A count that no call leaves, with a newline among them, is read as none
 unfoldable pub open_line : ℕ → List ℕ → List ℕ
@@ -11,7 +11,7 @@ open_line seen kept = cond (eqb (index_of 10 (take seen kept)) (length (take see
 
 -- what a piece does to an open line: it ends it at its first newline, and the line is given, where it is longer than 40,001 bytes as one
 -- that begins as it does; or the line goes on
-abbrev pub LineFound : List ℕ → List ℕ → List ℕ → Line → Type 0
+abbrev pub LineFound : List ℕ → List ℕ → List ℕ → Found → Type 0
 LineFound begun piece kept (Whole direct count used) =
     (used ≡ index_of 10 piece + 1) × (used ≤ length piece)
     × (take 40001 (take count (cond direct piece kept)) ≡ take 40001 (begun ++ take (index_of 10 piece) piece))

@@ -8,24 +8,11 @@ ghost use Rattle.console_intake.specs.Intake.{open_line, LineFound};
 
 use text_parse as parse;
 use text_parts as parts;
+use text_pieces::Found;
 use text_put as text;
 
 // How many bytes of a line are kept.
 pub const LINE: usize = 40001;
-
-// What a piece does to the line that is open.
-#[derive(Clone, Copy)]
-pub enum Line {
-    // It ends it: the line is the first `count` bytes of the piece (`direct`) or of those kept, and `used` bytes of the piece are
-    // taken with its newline.
-    Whole {
-        direct: bool,
-        count: usize,
-        used: usize,
-    },
-    // The line goes on: the piece is taken, and so many bytes of the line are kept.
-    Open(usize),
-}
 
 // The line that is open, as far as it is kept.
 #[tactic(auto, using(crate::proofs::Laws::open_is, crate::proofs::Laws::open_not))]
@@ -41,24 +28,24 @@ pub fn open_line(kept: &[u8], seen: usize) -> &[u8]
 
 // Takes in a piece up to the newline that ends the line that is open, or all of it.
 #[tactic(auto, using(crate::proofs::Laws::goes_on, crate::proofs::Laws::ends_kept, crate::proofs::Laws::ends_direct))]
-pub fn next(seen: usize, kept: &mut [u8; LINE], piece: &[u8]) -> Line
+pub fn next(seen: usize, kept: &mut [u8; LINE], piece: &[u8]) -> Found
     ensures { LineFound (open_line seen kept.old) piece.now kept.new result }
 {
     let begun = open_line(kept, seen).len();
     let end = parse::index_of(b'\n', piece);
     if end == piece.len() {
-        return Line::Open(text::put(kept, begun, piece));
+        return Found::Open(text::put(kept, begun, piece));
     }
     let used = end + 1;
     if begun == 0 {
-        return Line::Whole {
+        return Found::Whole {
             direct: true,
             count: end,
             used,
         };
     }
     let count = text::put(kept, begun, &piece[0..end]);
-    Line::Whole {
+    Found::Whole {
         direct: false,
         count,
         used,

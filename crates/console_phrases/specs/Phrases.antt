@@ -11,6 +11,6 @@ abbrev pub byte_named : List ℕ → ℕ → List ℕ
 byte_named word byte = word ++ hex_byte byte
 
 -- the texts of 0, 1, .. one behind the other, n of them
-unfoldable pub each_of : (ℕ → List ℕ) → ℕ → List ℕ
+unfoldable pub each_of : {X : Type 0} → (ℕ → List X) → ℕ → List X
 each_of text zero = []
 each_of text (suc n) = each_of text n ++ text n

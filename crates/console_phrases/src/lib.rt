@@ -1,50 +1,53 @@
-// The pieces that printed lines are made of, put into a buffer that the caller lends: each call answers where its text
-// ends.
+// The pieces that printed lines are made of: words with their numbers, one of two words, and texts one behind the other.
 #![tactic(auto)]
 
-ghost use Rattle.std.specs.Prelude.{◌≡◌, cond, []};
-ghost use Rattle.text_put.specs.Text.{put_at, end_of, named};
-ghost use Rattle.console_phrases.specs.Phrases.{paired, byte_named};
+ghost use Rattle.std.specs.Prelude.{◌≡◌, ◌<◌, cond, [], ℕ, List};
+ghost use Rattle.text_put.specs.Text.{end_of, named};
+ghost use Rattle.console_phrases.specs.Phrases.{paired, byte_named, each_of};
 
-use text_put as text;
+use text_put::{Decimal, HexByte, Printed};
 
-// Puts a word and the number behind it.
-pub fn put_named(buffer: &mut [u8], at: usize, word: &[u8], n: usize) -> usize
-    ensures value { result ≡ end_of buffer.old at (named word.now n) }
-    ensures buffer_after { buffer.new ≡ put_at buffer.old at (named word.now n) }
-{
-    let middle = text::put(buffer, at, word);
-    text::put_decimal(buffer, middle, n)
-}
+// A word and the number behind it.
+#[derive(Clone, Copy)]
+pub struct Named<'a>(pub &'a [u8], pub usize);
 
-// Puts a word and two numbers behind it.
-pub fn put_paired(buffer: &mut [u8], at: usize, word: &[u8], x: u16, y: u16) -> usize
-    ensures value { result ≡ end_of buffer.old at (paired word.now x y) }
-    ensures buffer_after { buffer.new ≡ put_at buffer.old at (paired word.now x y) }
-{
-    let middle = put_named(buffer, at, word, x as usize);
-    put_named(buffer, middle, b" ", y as usize)
-}
+impl<'a> Printed for Named<'a> {
+    ghost text = { λ p. named p.0.now p.1 };
 
-// Puts a word and a byte behind it.
-pub fn put_marked(buffer: &mut [u8], at: usize, word: &[u8], byte: u8) -> usize
-    ensures value { result ≡ end_of buffer.old at (byte_named word.now byte) }
-    ensures buffer_after { buffer.new ≡ put_at buffer.old at (byte_named word.now byte) }
-{
-    let middle = text::put(buffer, at, word);
-    text::put_byte(buffer, middle, byte)
-}
-
-// Puts one of two words, by a flag.
-pub fn put_either(buffer: &mut [u8], at: usize, flag: bool, yes: &[u8], no: &[u8]) -> usize
-    ensures value { result ≡ end_of buffer.old at (cond flag yes.now no.now) }
-    ensures buffer_after { buffer.new ≡ put_at buffer.old at (cond flag yes.now no.now) }
-{
-    if flag {
-        text::put(buffer, at, yes)
-    } else {
-        text::put(buffer, at, no)
+    fn put(self, buffer: &mut [u8], at: usize) -> usize {
+        (self.0, Decimal(self.1)).put(buffer, at)
     }
+}
+
+// A word and two numbers behind it.
+#[derive(Clone, Copy)]
+pub struct Paired<'a>(pub &'a [u8], pub u16, pub u16);
+
+impl<'a> Printed for Paired<'a> {
+    ghost text = { λ p. paired p.0.now p.1 p.2 };
+
+    fn put(self, buffer: &mut [u8], at: usize) -> usize {
+        (Named(self.0, self.1 as usize), Named(b" ", self.2 as usize)).put(buffer, at)
+    }
+}
+
+// A word and a byte behind it.
+#[derive(Clone, Copy)]
+pub struct Marked<'a>(pub &'a [u8], pub u8);
+
+impl<'a> Printed for Marked<'a> {
+    ghost text = { λ p. byte_named p.0.now p.1 };
+
+    fn put(self, buffer: &mut [u8], at: usize) -> usize {
+        (self.0, HexByte(self.1)).put(buffer, at)
+    }
+}
+
+// One of two words, by a flag.
+pub fn either<'a>(flag: bool, yes: &'a [u8], no: &'a [u8]) -> &'a [u8]
+    ensures { result.now ≡ cond flag yes.now no.now }
+{
+    if flag { yes } else { no }
 }
 
 // Puts nothing: where a text that is yet to come begins.
@@ -52,5 +55,39 @@ pub fn put_either(buffer: &mut [u8], at: usize, flag: bool, yes: &[u8], no: &[u8
 pub fn put_nothing(buffer: &[u8], at: usize) -> usize
     ensures { result ≡ end_of buffer.now at [] }
 {
-    if buffer.len() < at { buffer.len() } else { at }
+    at.min(buffer.len())
+}
+
+// Parts with a text each, counted from 0 on.
+pub trait Row: Copy {
+    type Part: Printed;
+
+    ghost count: { Self → ℕ };
+
+    ghost text_of: { Self → ℕ → List ℕ };
+
+    // How many parts there are.
+    fn count(self) -> usize
+        ensures { result ≡ count self };
+
+    // The part of a number.
+    fn part(self, i: usize) -> Self::Part
+        ensures { i < count self → Self.Part.text result ≡ text_of self i };
+}
+
+// The parts of a row, one behind the other.
+#[derive(Clone, Copy)]
+pub struct Each<R>(pub R);
+
+impl<R: Row> Printed for Each<R> {
+    ghost text = { λ e. each_of (R.text_of e.0) (R.count e.0) };
+
+    #[tactic(auto, using(crate::proofs::Laws::none_of, crate::proofs::Laws::one_more_of, text_put::proofs::Laws::put_no_text, text_put::proofs::Laws::end_join, text_put::proofs::Laws::put_join))]
+    fn put(self, buffer: &mut [u8], at: usize) -> usize {
+        let mut end = put_nothing(buffer, at);
+        for i in 0..self.0.count() {
+            end = self.0.part(i).put(buffer, end);
+        }
+        end
+    }
 }

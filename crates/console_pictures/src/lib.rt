@@ -1,94 +1,43 @@
-// The lines of drawn items, put into a buffer that the caller lends: each call answers where its text ends.
+// The lines of drawn items, put into a buffer that the caller lends.
 //
 // The contracts cite `specs/Pictures.antt`.
 #![tactic(auto)]
 
-ghost use Rattle.std.specs.Prelude.{◌≡◌, ◌+◌, ◌*◌, ◌/◌, ◌≤◌, min, length};
+ghost use Rattle.std.specs.Prelude.{◌≡◌, ◌/◌, min, length};
 ghost use Rattle.text_put.specs.Text.{put_at, end_of};
-ghost use Rattle.console_pictures.specs.Pictures.{at_text, left_text, point_line, vector_line, code_text, symbol_line, item_line, item_line_at, items_text};
+ghost use Rattle.console_pictures.specs.Pictures.{at_text, left_text, symbol_line, item_line, item_line_at, items_text};
 
 use console_phrases as phrases;
-use text_put as text;
+use console_phrases::{Each, Marked, Named, Paired, Row};
+use text_put::Printed;
 
-// Puts the address that ends an item's line.
-fn put_at(buffer: &mut [u8], at: usize, a: u16) -> usize
-    ensures value { result ≡ end_of buffer.old at (at_text a) }
-    ensures buffer_after { buffer.new ≡ put_at buffer.old at (at_text a) }
-{
-    let middle = phrases::put_named(buffer, at, b" at ", a as usize);
-    text::put(buffer, middle, b"\n")
+// The address that ends an item's line.
+#[derive(Clone, Copy)]
+struct At(u16);
+
+impl Printed for At {
+    ghost text = { λ a. at_text a.0 };
+
+    fn put(self, buffer: &mut [u8], at: usize) -> usize {
+        (Named(b" at ", self.0 as usize), b"\n").put(buffer, at)
+    }
 }
 
-// Puts what ends the line of a point or vector: `off` where the screen was left, and the address.
-fn put_left(buffer: &mut [u8], at: usize, off: u16, a: u16) -> usize
-    ensures value { result ≡ end_of buffer.old at (left_text off a) }
-    ensures buffer_after { buffer.new ≡ put_at buffer.old at (left_text off a) }
-{
-    let middle = phrases::put_either(buffer, at, off == 1, b" off", b"");
-    put_at(buffer, middle, a)
+// What ends the line of a point or vector: `off` where the screen was left, and the address.
+#[derive(Clone, Copy)]
+struct Left(u16, u16);
+
+impl Printed for Left {
+    ghost text = { λ p. left_text p.0 p.1 };
+
+    fn put(self, buffer: &mut [u8], at: usize) -> usize {
+        (phrases::either(self.0 == 1, b" off", b""), At(self.1)).put(buffer, at)
+    }
 }
 
-// Puts the line of a point.
-fn put_point(buffer: &mut [u8], at: usize, x: u16, y: u16, off: u16, a: u16) -> usize
-    ensures value { result ≡ end_of buffer.old at (point_line x y off a) }
-    ensures buffer_after { buffer.new ≡ put_at buffer.old at (point_line x y off a) }
-{
-    let middle = phrases::put_paired(buffer, at, b"point ", x, y);
-    put_left(buffer, middle, off, a)
-}
-
-// Puts the line of a vector.
-fn put_vector(
-    buffer: &mut [u8],
-    at: usize,
-    x0: u16,
-    y0: u16,
-    x: u16,
-    y: u16,
-    off: u16,
-    a: u16,
-) -> usize
-    ensures value { result ≡ end_of buffer.old at (vector_line x0 y0 x y off a) }
-    ensures buffer_after { buffer.new ≡ put_at buffer.old at (vector_line x0 y0 x y off a) }
-{
-    let first = phrases::put_paired(buffer, at, b"vector ", x0, y0);
-    let second = phrases::put_paired(buffer, first, b" ", x, y);
-    put_left(buffer, second, off, a)
-}
-
-// Puts a code and the size that it is drawn in.
-fn put_code(buffer: &mut [u8], at: usize, code: u16, size: u16) -> usize
-    ensures value { result ≡ end_of buffer.old at (code_text code size) }
-    ensures buffer_after { buffer.new ≡ put_at buffer.old at (code_text code size) }
-{
-    let middle = phrases::put_marked(buffer, at, b" code ", (code % 256) as u8);
-    phrases::put_either(buffer, middle, size == 1, b" basic", b" large")
-}
-
-// Puts the line of a character or of a cursor.
-fn put_symbol(
-    buffer: &mut [u8],
-    at: usize,
-    word: &[u8],
-    x: u16,
-    y: u16,
-    code: u16,
-    size: u16,
-    a: u16,
-) -> usize
-    ensures value { result ≡ end_of buffer.old at (symbol_line word.now x y code size a) }
-    ensures buffer_after { buffer.new ≡ put_at buffer.old at (symbol_line word.now x y code size a) }
-{
-    let first = phrases::put_paired(buffer, at, word, x, y);
-    let second = put_code(buffer, first, code, size);
-    put_at(buffer, second, a)
-}
-
-// Puts the line of an item, by its eight numbers.
-#[tactic(auto, unfolding(crate::specs::Pictures::item_line))]
-fn put_item(
-    buffer: &mut [u8],
-    at: usize,
+// An item, by its eight numbers.
+#[derive(Clone, Copy)]
+struct Item {
     kind: u16,
     x0: u16,
     y0: u16,
@@ -96,62 +45,85 @@ fn put_item(
     y: u16,
     code: u16,
     size: u16,
-    a: u16,
-) -> usize
-    ensures value { result ≡ end_of buffer.old at (item_line kind x0 y0 x y code size a) }
-    ensures buffer_after { buffer.new ≡ put_at buffer.old at (item_line kind x0 y0 x y code size a) }
-{
-    if kind == 1 {
-        return put_point(buffer, at, x, y, code, a);
-    }
-    if kind == 2 {
-        return put_vector(buffer, at, x0, y0, x, y, code, a);
-    }
-    if kind == 3 {
-        return put_symbol(buffer, at, b"character ", x, y, code, size, a);
-    }
-    put_symbol(buffer, at, b"cursor ", x, y, code, size, a)
+    address: u16,
 }
 
-// Puts the line of the item of an index in a list.
-fn put_listed(buffer: &mut [u8], at: usize, list: &[u16], i: usize) -> usize
-    requires { 8 * i + 8 ≤ length list.now }
-    ensures value { result ≡ end_of buffer.old at (item_line_at list.now i) }
-    ensures buffer_after { buffer.new ≡ put_at buffer.old at (item_line_at list.now i) }
-{
-    let k = 8 * i;
-    put_item(
-        buffer,
-        at,
-        list[k],
-        list[k + 1],
-        list[k + 2],
-        list[k + 3],
-        list[k + 4],
-        list[k + 5],
-        list[k + 6],
-        list[k + 7],
-    )
+// A character or a cursor, behind its word.
+#[derive(Clone, Copy)]
+struct Symbol<'a>(&'a [u8], Item);
+
+impl<'a> Printed for Symbol<'a> {
+    ghost text = { λ p. symbol_line p.0.now p.1.x p.1.y p.1.code p.1.size p.1.address };
+
+    fn put(self, buffer: &mut [u8], at: usize) -> usize {
+        let item = self.1;
+        let code = Marked(b" code ", (item.code % 256) as u8);
+        let size = phrases::either(item.size == 1, b" basic", b" large");
+        (
+            Paired(self.0, item.x, item.y),
+            (code, size),
+            At(item.address),
+        )
+            .put(buffer, at)
+    }
 }
 
-// The smaller of two numbers.
-fn least(a: usize, b: usize) -> usize
-    ensures { result ≡ min a b }
-{
-    if a < b { a } else { b }
+impl Printed for Item {
+    ghost text = { λ i. item_line i.kind i.x0 i.y0 i.x i.y i.code i.size i.address };
+
+    #[tactic(auto, unfolding(crate::specs::Pictures::item_line))]
+    fn put(self, buffer: &mut [u8], at: usize) -> usize {
+        let end = Left(self.code, self.address);
+        match self.kind {
+            1 => (Paired(b"point ", self.x, self.y), end).put(buffer, at),
+            2 => (
+                Paired(b"vector ", self.x0, self.y0),
+                Paired(b" ", self.x, self.y),
+                end,
+            )
+                .put(buffer, at),
+            3 => Symbol(b"character ", self).put(buffer, at),
+            _ => Symbol(b"cursor ", self).put(buffer, at),
+        }
+    }
+}
+
+// The first items of a list.
+#[derive(Clone, Copy)]
+struct Items<'a>(&'a [u16], usize);
+
+impl<'a> Row for Items<'a> {
+    type Part = Item;
+
+    ghost count = { λ r. min r.1 (length r.0.now / 8) };
+
+    ghost text_of = { λ r. item_line_at r.0.now };
+
+    fn count(self) -> usize {
+        self.1.min(self.0.len() / 8)
+    }
+
+    fn part(self, i: usize) -> Item {
+        let k = 8 * i.min(self.0.len() / 8);
+        let number = |j: usize| self.0.get(k + j).copied().unwrap_or(0);
+        Item {
+            kind: number(0),
+            x0: number(1),
+            y0: number(2),
+            x: number(3),
+            y: number(4),
+            code: number(5),
+            size: number(6),
+            address: number(7),
+        }
+    }
 }
 
 // Puts a line for each of the first items of a list.
+// Its own clauses: they are its promise to other crates.
 pub fn put_items(buffer: &mut [u8], at: usize, list: &[u16], count: usize) -> usize
     ensures value { result ≡ end_of buffer.old at (items_text list.now count) }
     ensures buffer_after { buffer.new ≡ put_at buffer.old at (items_text list.now count) }
 {
-    let n = least(count, list.len() / 8);
-    let mut end = phrases::put_nothing(buffer, at);
-    let mut i = 0;
-    while i < n {
-        end = put_listed(buffer, end, list, i);
-        i += 1;
-    }
-    end
+    Each(Items(list, count)).put(buffer, at)
 }

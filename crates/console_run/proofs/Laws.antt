@@ -1,4 +1,5 @@
 -- The pair over several steps: what they draw is listed at once, and the unit advances over all of them. Assumes nothing.
+use Rattle.std.specs.Prelude.{None, Some}
 use Prim.Native.Nat.{ℕ, suc, ◌+◌}
 use native.Mathlib.Omega.{arith}
 use mathlib.Core.Path.{◌≡◌, refl, sym, ap, ◌∙◌}
@@ -12,7 +13,6 @@ use Rattle.ground_words.proofs.Laws.{either_way}
 use Rattle.unit_cursor.specs.Cursor.{buffer}
 use Rattle.unit_items.specs.Items.{listing, listed}
 use Rattle.unit_items.specs.declared.Item.{Item}
-use Rattle.unit_items.specs.declared.Listing.TheVariants.{Full, Held}
 use Rattle.unit_items.proofs.Laws.{none_listing, none_listed, full_listed, listing_split, listed_append, length_listed}
 use Rattle.unit_head.specs.Head.{DisplayUnit, unit, with_state}
 use Rattle.unit_head.specs.declared.Head.{Head}
@@ -80,7 +80,7 @@ module _ (words : List ℕ) (h : Head) (runs : h.state.running ≡ true) where
   one_next g = simp runs
 
   pub one_listed : (g : ℕ) (gs : List ℕ) (n held k : ℕ) (list : List ℕ) → leb g 2 ≡ true
-      → listing (length list) held (items_drawn (buffer words h.cursor) h.state g) ≡ Held k
+      → listing (length list) held (items_drawn (buffer words h.cursor) h.state g) ≡ Some k
       → pair_from (unit words h) (g ∷ gs) n held list
       ≡ advances_by (gone_over (unit words h) (g ∷ [])) n k (listed list held (items_drawn (buffer words h.cursor) h.state g))
       (λ u' n'. pair_from u' gs n' k (listed list held (items_drawn (buffer words h.cursor) h.state g)))
@@ -89,7 +89,7 @@ module _ (words : List ℕ) (h : Head) (runs : h.state.running ≡ true) where
 
   -- or with no room for what it draws
   pub one_full : (g : ℕ) (gs : List ℕ) (n held : ℕ) (list : List ℕ) → leb g 2 ≡ true
-      → listing (length list) held (items_drawn (buffer words h.cursor) h.state g) ≡ Full
+      → listing (length list) held (items_drawn (buffer words h.cursor) h.state g) ≡ None
       → pair_from (unit words h) (g ∷ gs) n held list ≡ run_end (unit words h) (RunValues.ran n 9 held) list
   unfolding pair_from unit_list
   one_full g gs n held list e f =
@@ -105,7 +105,7 @@ module _ (words : List ℕ) (rest : List ℕ) where
   abbrev PairOver : List ℕ → Type 0
   PairOver a =
       (h : Head) → h.state.running ≡ true → (n held m : ℕ) (list : List ℕ) → all_sights a ≡ true
-      → listing (length list) held (items_run (buffer words h.cursor) a h.state) ≡ Held m
+      → listing (length list) held (items_run (buffer words h.cursor) a h.state) ≡ Some m
       → pair_from (unit words h) (a ++ rest) n held list
       ≡ advances_by (gone_over (unit words h) a) n m (listed list held (items_run (buffer words h.cursor) a h.state))
       (λ u' n'. pair_from u' rest n' m (listed list held (items_run (buffer words h.cursor) a h.state)))
@@ -124,7 +124,7 @@ module _ (words : List ℕ) (rest : List ℕ) where
     abbrev others : Stepped → List Item
     others st = beyond [] (λ x. items_run (buffer words h.cursor) a x) st
 
-    by_step : (st : Stepped) → step_from words h.state g ≡ st → listing (length list) held (own ++ others st) ≡ Held m
+    by_step : (st : Stepped) → step_from words h.state g ≡ st → listing (length list) held (own ++ others st) ≡ Some m
         → pair_from (unit words h) (g ∷ (a ++ rest)) n held list
         ≡ advances_by (gone_over (unit words h) (g ∷ a)) n m (listed list held (own ++ others st)) (λ u' n'. pair_from u' rest n' m (listed list held (own ++ others st)))
     by_step (Goes x) e f =
@@ -142,7 +142,7 @@ module _ (words : List ℕ) (rest : List ℕ) where
         ∙ sym (over_goes words h runs n m (listed list held (own ++ others (Goes x))) (λ u' n'. pair_from u' rest n' m (listed list held (own ++ others (Goes x)))) g a x e runs')
     by_step (Stops x stop) e f =
         let only = append-nil own in
-        let f' : listing (length list) held own ≡ Held m = simp only at f in
+        let f' : listing (length list) held own ≡ Some m = simp only at f in
         simp only
         (one_listed words h runs g (a ++ rest) n held m list sight f'
         ∙ over_stops words h runs n m (listed list held own) (λ u' n'. pair_from u' (a ++ rest) n' m (listed list held own)) g [] x stop e

@@ -1,15 +1,15 @@
 -- A run with its list (02, C-21), "the two used together": what the next step draws is listed, and the unit advances by it. All that is said
 -- here is said by what listing and advancing answer.
-use Rattle.std.specs.Prelude.{ℕ, ◌+◌, cond, List, [], ◌∷◌, eqb}
+use Rattle.std.specs.Prelude.{ℕ, ◌+◌, cond, List, [], ◌∷◌, eqb, Err, Ok, Result}
 use Rattle.ground_refusals.specs.Refusals.{refusal_number}
+use Rattle.ground_refusals.specs.declared.Refusal.{Refusal}
+use Rattle.unit_head.specs.declared.Head.{Head}
 use Rattle.unit_head.specs.Head.{DisplayUnit, unit}
 use Rattle.unit_advance.specs.Advance.{end_number, all_sights, AdvanceValues, AdvanceEnd, unit_advance}
 use Rattle.unit_list.specs.List.{ListValues, ListEnd, unit_list}
 use Rattle.console_run.specs.declared.Outcome.{Outcome}
 use Rattle.console_run.specs.declared.Outcome.TheVariants as outcome
-use Rattle.console_run.specs.declared.RunReply.{RunReply}
-use Rattle.console_run.specs.declared.RunReply.TheVariants as reply
-use Rattle.console_run.specs.declared.HeadRan.{HeadRan}
+use Rattle.console_run.specs.declared.Ran.{Ran}
 
 -- why a run ended: as advancing ended, or "9 items don't fit"
 abbrev pub outcome_number : Outcome → ℕ
@@ -21,9 +21,9 @@ pub data RunValues : Type 0 where
   ran : ℕ → ℕ → ℕ → RunValues
   refused : ℕ → RunValues
 
-abbrev pub run_values : RunReply → RunValues
-run_values (reply.Done steps o items) = RunValues.ran steps (outcome_number o) items
-run_values (reply.Refused r) = RunValues.refused (refusal_number r)
+abbrev pub run_values : Result Ran Refusal → RunValues
+run_values (Ok r) = RunValues.ran r.steps (outcome_number r.outcome) r.items
+run_values (Err r) = RunValues.refused (refusal_number r)
 
 -- what a run leaves: the unit, the answer, and the list lent
 pub record RunEnd : Type 0 where
@@ -34,9 +34,9 @@ pub record RunEnd : Type 0 where
 abbrev pub run_end : DisplayUnit → RunValues → List ℕ → RunEnd
 run_end u answer list = record { unit = u; answer = answer; list = list }
 
--- the same of a call that gives the head beside its answer
-abbrev pub run_ended : List ℕ → HeadRan → List ℕ → RunEnd
-run_ended words r list = run_end (unit words r.head) (run_values r.answer) list
+-- the same of a call that leaves the words, the head and the list, and answers
+abbrev pub run_ended : List ℕ → Head → Result Ran Refusal → List ℕ → RunEnd
+run_ended words head r list = run_end (unit words head) (run_values r) list
 
 -- by what advancing answers, with n steps done before and so many items held: on, or the end
 abbrev pub advanced_to : ℕ → ℕ → List ℕ → (DisplayUnit → ℕ → RunEnd) → DisplayUnit → AdvanceValues → RunEnd

@@ -1,32 +1,38 @@
--- Texts looked through from the left: what is left of them gives the whole answer.
-use Prim.Native.Nat.{ℕ, suc, ◌+◌, ◌<◌}
-use mathlib.Core.Path.{◌≡◌, refl, ap}
-use mathlib.Core.Bool.{Bool, true, false, cond}
-use mathlib.Core.List.{List, [], ◌∷◌}
-use native.Mathlib.Numerals.{add-one}
-use lib.ListN.{length, get_or, drop}
-use lib.Seq.{drop-cons}
-use lib.Dec.{eqb}
-use borrow.Author.Tests.{ne_eqb, eq-eqb}
-use Rattle.console_script.specs.Script.{same}
+-- A room is what stands before the first space, or all there is where none stands.
+use Rattle.std.proofs.Common.{ℕ, List, ◌≡◌, refl, sym, ap, cond, Bool, true, false, length, take_all, arith}
+use borrow.Author.Tests.{eqb-true}
+use Rattle.text_parse.specs.Index.{index_of}
+use Rattle.text_parse.specs.Parse.{parsed_of}
+use Rattle.console_script.specs.declared.Request.{Request}
+use Rattle.console_script.specs.declared.Request.TheVariants.{Error}
+use Rattle.console_script.specs.Script.{first_word, rest_of, lone, are_bytes, are_sights, up_to, command_request, room_in, run_request, run_in}
 
--- texts of different lengths differ
-pub lengths_differ : (a b : List ℕ) → (length a ≡ length b → ⊥) → same a b ≡ false
-unfolding same
-lengths_differ [] [] h = absurd (h refl)
-lengths_differ [] (y ∷ ys) h = refl
-lengths_differ (x ∷ xs) [] h = refl
-lengths_differ (x ∷ xs) (y ∷ ys) h = rw (lengths_differ xs ys (λ e. h (ap suc e))) (always (eqb x y))
-  where
-    always : (t : Bool) → cond t false false ≡ false
-    always true = refl
-    always false = refl
+one_word : (rest : List ℕ) → lone rest ≡ true → first_word rest ≡ rest
+unfolding lone first_word
+one_word rest e =
+    let whole : index_of 32 rest ≡ length rest = eqb-true (index_of 32 rest) (length rest) e in
+    take_all (index_of 32 rest) rest (omega arith)
 
-module _ (a b : List ℕ) (i : ℕ) (in-a : i < length a) (in_b : i < length b) where
-  pub letters_differ : (get_or a i 0 ≡ get_or b i 0 → ⊥) → same (drop i a) (drop i b) ≡ false
-  unfolding same
-  letters_differ h = rw (drop-cons a i 0, drop-cons b i 0, ne_eqb (get_or a i 0) (get_or b i 0) h)
+-- what is asked of all there is, or of the word before what is well made
+chosen : (t u : Bool) (a b : Request) → (t ≡ true → a ≡ b) → (t ≡ false → u ≡ true) → cond t a (cond u b Error) ≡ b
+chosen true u a b alone before = alone refl
+chosen false u a b alone before = rw (before refl) refl
 
-  pub letters_agree : get_or a i 0 ≡ get_or b i 0 → same (drop i a) (drop i b) ≡ same (drop (i + 1) a) (drop (i + 1) b)
-  unfolding same
-  letters_agree h = rw (add-one, drop-cons a i 0, drop-cons b i 0, eq-eqb (get_or a i 0) (get_or b i 0) h)
+module _ (rest : List ℕ) where
+  pub room_is : (code : ℕ) → (lone rest ≡ false → are_bytes (rest_of rest) ≡ true)
+      → room_in code rest ≡ command_request code (up_to 65535 (parsed_of (first_word rest)))
+  unfolding room_in
+  room_is code made =
+      chosen (lone rest) (are_bytes (rest_of rest)) (command_request code (up_to 65535 (parsed_of rest)))
+      (command_request code (up_to 65535 (parsed_of (first_word rest))))
+      (λ e. ap (λ (l : List ℕ). command_request code (up_to 65535 (parsed_of l))) (sym (one_word rest e)))
+      made
+
+  pub run_is : (lone rest ≡ false → are_sights (rest_of rest) ≡ true)
+      → run_in rest ≡ run_request (up_to 4096 (parsed_of (first_word rest)))
+  unfolding run_in
+  run_is made =
+      chosen (lone rest) (are_sights (rest_of rest)) (run_request (up_to 4096 (parsed_of rest)))
+      (run_request (up_to 4096 (parsed_of (first_word rest))))
+      (λ e. ap (λ (l : List ℕ). run_request (up_to 4096 (parsed_of l))) (sym (one_word rest e)))
+      made

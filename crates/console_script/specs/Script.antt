@@ -1,12 +1,11 @@
 -- The requests of a script: one a line, words parted by one space, numbers decimal up to five digits, bytes and words in
 -- capital hexadecimal without separators.
-use Rattle.std.specs.Prelude.{ℕ, ◌+◌, ◌%◌, Bool, true, false, cond, List, [], ◌∷◌, length, get_or, take, drop, leb, eqb}
+use Rattle.std.specs.Prelude.{ℕ, ◌+◌, ◌%◌, Bool, false, cond, List, length, get_or, take, drop, leb, eqb, Option, Some, None}
+use Rattle.std.specs.Str.{bytes_eq}
 use Rattle.text_parse.specs.Index.{index_of}
 use Rattle.text_put.specs.Text.{spelled}
 use Rattle.text_digits.specs.Digits.{all_below, hex_byte_at}
 use Rattle.text_parse.specs.Parse.{parsed_of}
-use Rattle.text_parse.specs.declared.Parsed.{Parsed}
-use Rattle.text_parse.specs.declared.Parsed.TheVariants.{Number, Wrong}
 use Rattle.console_script.specs.declared.Request.{Request}
 use Rattle.console_script.specs.declared.Request.TheVariants.{Fresh, Load, Command, Halt, SwitchOpen, SwitchClosed, Run, State, Words, Key, Cursor, Empty, Error}
 
@@ -21,11 +20,8 @@ unfoldable pub lone : List ℕ → Bool
 lone line = eqb (index_of 32 line) (length line)
 
 -- letter by letter
-unfoldable pub same : List ℕ → List ℕ → Bool
-same [] [] = true
-same [] (y ∷ ys) = false
-same (x ∷ xs) [] = false
-same (x ∷ xs) (y ∷ ys) = cond (eqb x y) (same xs ys) false
+abbrev pub same : List ℕ → List ℕ → Bool
+same = bytes_eq
 
 -- bytes have two digits each, words four, sights one decimal digit each; none at all is no such text
 unfoldable pub are_bytes : List ℕ → Bool
@@ -38,27 +34,27 @@ unfoldable pub are_sights : List ℕ → Bool
 are_sights text = cond (eqb (length text) 0) false (all_below 10 text)
 
 -- a number that is not above a bound
-abbrev pub up_to : ℕ → Parsed → Parsed
-up_to most (Number n) = cond (leb n most) (Number n) Wrong
-up_to most Wrong = Wrong
+abbrev pub up_to : ℕ → Option ℕ → Option ℕ
+up_to most (Some n) = cond (leb n most) (Some n) None
+up_to most None = None
 
 -- `fresh SIZE`
-abbrev pub fresh_request : Parsed → Request
-fresh_request (Number size) = Fresh size
-fresh_request Wrong = Error
+abbrev pub fresh_request : Option ℕ → Request
+fresh_request (Some size) = Fresh size
+fresh_request None = Error
 
 -- `load SIZE WORDS`: the words are what stands behind two spaces
-abbrev pub load_request : Parsed → Request
-load_request (Number size) = Load size
-load_request Wrong = Error
+abbrev pub load_request : Option ℕ → Request
+load_request (Some size) = Load size
+load_request None = Error
 
 unfoldable pub load_in : List ℕ → Request
 load_in rest = cond (are_words (rest_of rest)) (load_request (parsed_of (first_word rest))) Error
 
 -- `command CODE ROOM [DATA]`, the room up to 65,535 bytes: the data are what stands behind three spaces
-abbrev pub command_request : ℕ → Parsed → Request
-command_request code (Number room) = Command code room
-command_request code Wrong = Error
+abbrev pub command_request : ℕ → Option ℕ → Request
+command_request code (Some room) = Command code room
+command_request code None = Error
 
 unfoldable pub room_in : ℕ → List ℕ → Request
 room_in code rest =
@@ -72,9 +68,9 @@ command_in rest =
     Error
 
 -- `run ROOM [SIGHTS]`, the room up to 4,096 items: the sights are what stands behind two spaces
-abbrev pub run_request : Parsed → Request
-run_request (Number room) = Run room
-run_request Wrong = Error
+abbrev pub run_request : Option ℕ → Request
+run_request (Some room) = Run room
+run_request None = Error
 
 unfoldable pub run_in : List ℕ → Request
 run_in rest =
@@ -82,10 +78,10 @@ run_in rest =
     (cond (are_sights (rest_of rest)) (run_request (up_to 4096 (parsed_of (first_word rest)))) Error)
 
 -- `words FROM COUNT`
-abbrev pub range_request : Parsed → Parsed → Request
-range_request (Number from) (Number count) = Words from count
-range_request (Number from) Wrong = Error
-range_request Wrong count = Error
+abbrev pub range_request : Option ℕ → Option ℕ → Request
+range_request (Some from) (Some count) = Words from count
+range_request (Some from) None = Error
+range_request None count = Error
 
 unfoldable pub range_in : List ℕ → Request
 range_in rest = range_request (parsed_of (first_word rest)) (parsed_of (rest_of rest))

@@ -3,15 +3,15 @@
 // The contracts cite `specs/Script.antt`.
 #![tactic(auto)]
 
-ghost use Rattle.std.specs.Prelude.{◌≡◌, ◌+◌, ◌<◌};
-ghost use Rattle.console_script.specs.Script.{first_word, rest_of, lone as Script·lone, same as Script·same, are_bytes, are_words, are_sights, up_to, fresh_request, load_request, load_in, command_request, room_in, command_in, run_request, run_in, range_request, range_in, code_in, key_in, argued_of, plain_of, request_of};
+ghost use Rattle.std.specs.Prelude.{◌≡◌};
+ghost use Rattle.console_script.specs.Script.{first_word, rest_of, lone as Script·lone, are_bytes, are_words, are_sights, load_in, room_in, command_in, run_in, range_in, code_in, key_in, argued_of, plain_of, request_of};
 
 use text_digits as digits;
 use text_parse as parse;
-use text_parse::Parsed;
 use text_parts as parts;
 
 // What a line asks for. What follows the numbers, in `Load`, `Command` and `Run`, is found by `rest_of`.
+// Not an Option: Error is a request that is answered, as each is.
 #[derive(Clone, Copy)]
 pub enum Request {
     Fresh(usize),
@@ -45,8 +45,7 @@ pub fn rest_of(line: &[u8]) -> &[u8]
     ensures { result.now ≡ rest_of line.now }
 {
     let end = parse::index_of(b' ', line);
-    let from = end + 1;
-    parts::behind(line, from)
+    parts::behind(line, end + 1)
 }
 
 // Whether a line is one word.
@@ -57,36 +56,12 @@ fn lone(line: &[u8]) -> bool
     parse::index_of(b' ', line) == line.len()
 }
 
-// Whether two texts are the same.
-#[tactic(auto, using(crate::proofs::Laws::lengths_differ, crate::proofs::Laws::letters_differ, crate::proofs::Laws::letters_agree), unfolding(crate::specs::Script::same))]
-fn same(a: &[u8], b: &[u8]) -> bool
-    ensures { result ≡ Script·same a.now b.now }
-{
-    if a.len() != b.len() {
-        return false;
-    }
-    let mut i = 0;
-    while i < a.len() {
-        if a[i] != b[i] {
-            return false;
-        }
-        i += 1;
-    }
-    true
-}
-
 // Whether a text is bytes of two digits each.
 #[tactic(auto, unfolding(crate::specs::Script::are_bytes))]
 fn is_bytes(text: &[u8]) -> bool
     ensures { result ≡ are_bytes text.now }
 {
-    if text.len() == 0 {
-        return false;
-    }
-    if text.len() % 2 != 0 {
-        return false;
-    }
-    digits::all_below(16, text)
+    text.len() != 0 && text.len() % 2 == 0 && digits::all_below(16, text)
 }
 
 // Whether a text is words of four digits each.
@@ -94,13 +69,7 @@ fn is_bytes(text: &[u8]) -> bool
 fn is_words(text: &[u8]) -> bool
     ensures { result ≡ are_words text.now }
 {
-    if text.len() == 0 {
-        return false;
-    }
-    if text.len() % 4 != 0 {
-        return false;
-    }
-    digits::all_below(16, text)
+    text.len() != 0 && text.len() % 4 == 0 && digits::all_below(16, text)
 }
 
 // Whether a text is sights of one digit each.
@@ -108,44 +77,7 @@ fn is_words(text: &[u8]) -> bool
 fn is_sights(text: &[u8]) -> bool
     ensures { result ≡ are_sights text.now }
 {
-    if text.len() == 0 {
-        return false;
-    }
-    digits::all_below(10, text)
-}
-
-// A number, if it is not above a bound.
-fn up_to(most: usize, parsed: Parsed) -> Parsed
-    ensures { result ≡ up_to most parsed }
-{
-    match parsed {
-        Parsed::Wrong => Parsed::Wrong,
-        Parsed::Number(n) => {
-            if n <= most {
-                Parsed::Number(n)
-            } else {
-                Parsed::Wrong
-            }
-        }
-    }
-}
-
-fn fresh_by(size: Parsed) -> Request
-    ensures { result ≡ fresh_request size }
-{
-    match size {
-        Parsed::Number(n) => Request::Fresh(n),
-        Parsed::Wrong => Request::Error,
-    }
-}
-
-fn load_by(size: Parsed) -> Request
-    ensures { result ≡ load_request size }
-{
-    match size {
-        Parsed::Number(n) => Request::Load(n),
-        Parsed::Wrong => Request::Error,
-    }
+    text.len() != 0 && digits::all_below(10, text)
 }
 
 // What stands behind `load`.
@@ -153,33 +85,24 @@ fn load_by(size: Parsed) -> Request
 fn load_of(rest: &[u8]) -> Request
     ensures { result ≡ load_in rest.now }
 {
-    if is_words(rest_of(rest)) {
-        return load_by(parse::number_of(first_word(rest)));
+    if !is_words(rest_of(rest)) {
+        return Request::Error;
     }
-    Request::Error
-}
-
-fn command_by(code: u8, room: Parsed) -> Request
-    ensures { result ≡ command_request code room }
-{
-    match room {
-        Parsed::Number(n) => Request::Command(code, n),
-        Parsed::Wrong => Request::Error,
-    }
+    parse::number_of(first_word(rest)).map_or(Request::Error, Request::Load)
 }
 
 // What stands behind a command's code.
-#[tactic(auto, unfolding(crate::specs::Script::room_in))]
+#[tactic(auto, using(crate::proofs::Laws::room_is), unfolding(crate::specs::Script::room_in))]
 fn room_of(code: u8, rest: &[u8]) -> Request
     ensures { result ≡ room_in code rest.now }
 {
-    if lone(rest) {
-        return command_by(code, up_to(65535, parse::number_of(rest)));
+    if !lone(rest) && !is_bytes(rest_of(rest)) {
+        return Request::Error;
     }
-    if is_bytes(rest_of(rest)) {
-        return command_by(code, up_to(65535, parse::number_of(first_word(rest))));
+    match parse::number_of(first_word(rest)) {
+        Some(room) if room <= 65535 => Request::Command(code, room),
+        _ => Request::Error,
     }
-    Request::Error
 }
 
 // What stands behind `command`.
@@ -188,47 +111,23 @@ fn command_of(rest: &[u8]) -> Request
     ensures { result ≡ command_in rest.now }
 {
     let code = first_word(rest);
-    if code.len() != 2 {
+    if code.len() != 2 || !digits::all_below(16, code) {
         return Request::Error;
     }
-    if digits::all_below(16, code) {
-        return room_of(digits::byte_at(code, 0), rest_of(rest));
-    }
-    Request::Error
+    room_of(digits::byte_at(code, 0), rest_of(rest))
 }
 
-fn run_by(room: Parsed) -> Request
-    ensures { result ≡ run_request room }
-{
-    match room {
-        Parsed::Number(n) => Request::Run(n),
-        Parsed::Wrong => Request::Error,
-    }
-}
-
-// What stands behind `run`.
-#[tactic(auto, unfolding(crate::specs::Script::run_in))]
+// What stands behind `run`. Not one with `room_of`: the test, the bound and the request differ, and that is all there is.
+#[tactic(auto, using(crate::proofs::Laws::run_is), unfolding(crate::specs::Script::run_in))]
 fn run_of(rest: &[u8]) -> Request
     ensures { result ≡ run_in rest.now }
 {
-    if lone(rest) {
-        return run_by(up_to(4096, parse::number_of(rest)));
+    if !lone(rest) && !is_sights(rest_of(rest)) {
+        return Request::Error;
     }
-    if is_sights(rest_of(rest)) {
-        return run_by(up_to(4096, parse::number_of(first_word(rest))));
-    }
-    Request::Error
-}
-
-fn words_by(from: Parsed, count: Parsed) -> Request
-    ensures { result ≡ range_request from count }
-{
-    match from {
-        Parsed::Wrong => Request::Error,
-        Parsed::Number(f) => match count {
-            Parsed::Number(n) => Request::Words(f, n),
-            Parsed::Wrong => Request::Error,
-        },
+    match parse::number_of(first_word(rest)) {
+        Some(room) if room <= 4096 => Request::Run(room),
+        _ => Request::Error,
     }
 }
 
@@ -237,10 +136,13 @@ fn words_by(from: Parsed, count: Parsed) -> Request
 fn words_of(rest: &[u8]) -> Request
     ensures { result ≡ range_in rest.now }
 {
-    words_by(
+    match (
         parse::number_of(first_word(rest)),
         parse::number_of(rest_of(rest)),
-    )
+    ) {
+        (Some(from), Some(count)) => Request::Words(from, count),
+        _ => Request::Error,
+    }
 }
 
 // The key of a code in two digits.
@@ -248,13 +150,10 @@ fn words_of(rest: &[u8]) -> Request
 fn code_of(rest: &[u8]) -> Request
     ensures { result ≡ code_in rest.now }
 {
-    if rest.len() != 2 {
+    if rest.len() != 2 || !digits::all_below(16, rest) {
         return Request::Error;
     }
-    if digits::all_below(16, rest) {
-        return Request::Key(digits::byte_at(rest, 0) as u16);
-    }
-    Request::Error
+    Request::Key(digits::byte_at(rest, 0) as u16)
 }
 
 // What stands behind `key`.
@@ -262,13 +161,13 @@ fn code_of(rest: &[u8]) -> Request
 fn key_of(rest: &[u8]) -> Request
     ensures { result ≡ key_in rest.now }
 {
-    if same(rest, b"advance") {
+    if rest == b"advance".as_slice() {
         return Request::Key(256);
     }
-    if same(rest, b"backspace") {
+    if rest == b"backspace".as_slice() {
         return Request::Key(257);
     }
-    if same(rest, b"jump") {
+    if rest == b"jump".as_slice() {
         return Request::Key(258);
     }
     code_of(rest)
@@ -279,22 +178,22 @@ fn key_of(rest: &[u8]) -> Request
 fn argued_of(word: &[u8], rest: &[u8]) -> Request
     ensures { result ≡ argued_of word.now rest.now }
 {
-    if same(word, b"command") {
+    if word == b"command".as_slice() {
         return command_of(rest);
     }
-    if same(word, b"run") {
+    if word == b"run".as_slice() {
         return run_of(rest);
     }
-    if same(word, b"words") {
+    if word == b"words".as_slice() {
         return words_of(rest);
     }
-    if same(word, b"load") {
+    if word == b"load".as_slice() {
         return load_of(rest);
     }
-    if same(word, b"fresh") {
-        return fresh_by(parse::number_of(rest));
+    if word == b"fresh".as_slice() {
+        return parse::number_of(rest).map_or(Request::Error, Request::Fresh);
     }
-    if same(word, b"key") {
+    if word == b"key".as_slice() {
         return key_of(rest);
     }
     Request::Error
@@ -305,19 +204,19 @@ fn argued_of(word: &[u8], rest: &[u8]) -> Request
 fn plain_of(line: &[u8]) -> Request
     ensures { result ≡ plain_of line.now }
 {
-    if same(line, b"state") {
+    if line == b"state".as_slice() {
         return Request::State;
     }
-    if same(line, b"halt") {
+    if line == b"halt".as_slice() {
         return Request::Halt;
     }
-    if same(line, b"switch open") {
+    if line == b"switch open".as_slice() {
         return Request::SwitchOpen;
     }
-    if same(line, b"switch closed") {
+    if line == b"switch closed".as_slice() {
         return Request::SwitchClosed;
     }
-    if same(line, b"cursor") {
+    if line == b"cursor".as_slice() {
         return Request::Cursor;
     }
     argued_of(first_word(line), rest_of(line))
@@ -328,10 +227,7 @@ fn plain_of(line: &[u8]) -> Request
 pub fn request_of(line: &[u8]) -> Request
     ensures { result ≡ request_of line.now }
 {
-    if line.len() == 0 {
-        return Request::Empty;
-    }
-    if line[0] == 35 {
+    if line.len() == 0 || line[0] == b'#' {
         return Request::Empty;
     }
     plain_of(line)

@@ -1,4 +1,5 @@
 -- A line asks for no more room than its request may have.
+use Rattle.std.specs.Prelude.{None, Option, Some}
 use Prim.Native.Nat.{ℕ}
 use mathlib.Core.Path.{◌≡◌, refl}
 use mathlib.Core.Bool.{Bool, true, false, cond}
@@ -8,8 +9,6 @@ use lib.Dec.{leb, eqb}
 use lib.ListN.{length, get_or}
 use Rattle.text_put.specs.Text.{spelled}
 use Rattle.text_parse.specs.Parse.{parsed_of}
-use Rattle.text_parse.specs.declared.Parsed.{Parsed}
-use Rattle.text_parse.specs.declared.Parsed.TheVariants.{Number, Wrong}
 use Rattle.console_script.specs.Script.{first_word, rest_of, lone, same, are_bytes, are_words, are_sights, up_to, fresh_request, load_request, load_in, command_request, room_in, command_in, run_request, run_in, range_request, range_in, code_in, key_in, argued_of, plain_of, request_of}
 use Rattle.text_digits.specs.Digits.{all_below, hex_byte_at}
 use Rattle.console_script.specs.declared.Request.{Request}
@@ -23,34 +22,34 @@ either true f g = f
 either false f g = g
 
 -- a room up to its bound
-run_within : (n : ℕ) (t : Bool) → leb n 4096 ≡ t → Fit (run_request (cond t (Number n) Wrong))
+run_within : (n : ℕ) (t : Bool) → leb n 4096 ≡ t → Fit (run_request (cond t (Some n) None))
 run_within n true e = record { fits = leb-true n 4096 e }
 run_within n false e = record { fits = tt }
 
-run_fits : (p : Parsed) → Fit (run_request (up_to 4096 p))
-run_fits (Number n) = run_within n (leb n 4096) refl
-run_fits Wrong = record { fits = tt }
+run_fits : (p : Option ℕ) → Fit (run_request (up_to 4096 p))
+run_fits (Some n) = run_within n (leb n 4096) refl
+run_fits None = record { fits = tt }
 
-command_within : (code n : ℕ) (t : Bool) → leb n 65535 ≡ t → Fit (command_request code (cond t (Number n) Wrong))
+command_within : (code n : ℕ) (t : Bool) → leb n 65535 ≡ t → Fit (command_request code (cond t (Some n) None))
 command_within code n true e = record { fits = leb-true n 65535 e }
 command_within code n false e = record { fits = tt }
 
-command_fits : (code : ℕ) (p : Parsed) → Fit (command_request code (up_to 65535 p))
-command_fits code (Number n) = command_within code n (leb n 65535) refl
-command_fits code Wrong = record { fits = tt }
+command_fits : (code : ℕ) (p : Option ℕ) → Fit (command_request code (up_to 65535 p))
+command_fits code (Some n) = command_within code n (leb n 65535) refl
+command_fits code None = record { fits = tt }
 
-fresh_fits : (p : Parsed) → Fit (fresh_request p)
-fresh_fits (Number n) = record { fits = tt }
-fresh_fits Wrong = record { fits = tt }
+fresh_fits : (p : Option ℕ) → Fit (fresh_request p)
+fresh_fits (Some n) = record { fits = tt }
+fresh_fits None = record { fits = tt }
 
-load_fits : (p : Parsed) → Fit (load_request p)
-load_fits (Number n) = record { fits = tt }
-load_fits Wrong = record { fits = tt }
+load_fits : (p : Option ℕ) → Fit (load_request p)
+load_fits (Some n) = record { fits = tt }
+load_fits None = record { fits = tt }
 
-words_fits : (p q : Parsed) → Fit (range_request p q)
-words_fits (Number from) (Number count) = record { fits = tt }
-words_fits (Number from) Wrong = record { fits = tt }
-words_fits Wrong q = record { fits = tt }
+words_fits : (p q : Option ℕ) → Fit (range_request p q)
+words_fits (Some from) (Some count) = record { fits = tt }
+words_fits (Some from) None = record { fits = tt }
+words_fits None q = record { fits = tt }
 
 -- by the requests' definitions
 rooms_fit : (code : ℕ) (rest : List ℕ) → Fit (room_in code rest)

@@ -8,27 +8,24 @@ use lib.Seq.{take_at}
 use borrow.Author.Tests.{le-leb, lt-leb}
 use Rattle.text_put.proofs.Laws.{Puts}
 use Rattle.device_2250.specs.declared.Device.{Device}
-use Rattle.console_session.specs.declared.Spoken.{Spoken}
 use Rattle.console_replies.specs.Replies.{error_line, ran_line}
 use Rattle.console_pictures.specs.Pictures.{items_text}
 use Rattle.unit_head.specs.Head.{DisplayUnit}
 use Rattle.unit_loading.specs.Loading.{unit_load}
 use Rattle.unit_commands.specs.Commands.{unit_command}
-use Rattle.console_run.specs.Pair.{outcome_number, run_values, pair_run}
+use Rattle.console_run.specs.Pair.{outcome_number, RunValues, pair_run}
 use Rattle.console_run.specs.declared.Outcome.{Outcome}
-use Rattle.console_run.specs.declared.RunReply.{RunReply}
-use Rattle.console_run.specs.declared.RunReply.TheVariants.{Done}
 use Rattle.console_script.specs.Script.{rest_of, request_of}
 use Rattle.console_decode.specs.Decode.{bytes_in, sights_in}
 use Rattle.console_session.specs.Session.{Said, said, load_said, command_said, run_told, run_said, bytes_sent, dump_sent, sights_sent, said_by, said_of, Speaks}
 
-pub speaks_as : {s t : Said} {buffer : List ℕ} {at : ℕ} {after : List ℕ} {told : Spoken} → s ≡ t
-    → Speaks s buffer at after told
-    → Speaks t buffer at after told
-speaks_as {s} {t} {buffer} {at} {after} {told} e a = subst (λ (s : Said). Speaks s buffer at after told) e a
+pub speaks_as : {s t : Said} {buffer : List ℕ} {at : ℕ} {after : List ℕ} {left : Device} {ends : ℕ} → s ≡ t
+    → Speaks s buffer at after left ends
+    → Speaks t buffer at after left ends
+speaks_as {s} {t} {buffer} {at} {after} {left} {ends} e a = subst (λ (s : Said). Speaks s buffer at after left ends) e a
 
 pub spoken : (d : Device) (text buffer : List ℕ) (at end : ℕ) (after : List ℕ) → Puts buffer at text end after
-    → Speaks (said d text) buffer at after (record { device = d; end = end })
+    → Speaks (said d text) buffer at after d end
 spoken d text buffer at end after p = record { device = refl; end = p.0; lines = p.1 }
 
 -- the first n of an array of zeros: n zeros
@@ -44,10 +41,9 @@ pub part_length : (size n : ℕ) → n ≤ size → length (take (n - 0) (drop 0
 part_length size n h = ap length (part_zero size n h) ∙ length-replicate n 0
 
 -- what is said of a run that was done
-pub run_end : (d : Device) (list : List ℕ) {o : RunReply} {steps why items : ℕ} {e : Outcome} → o ≡ Done steps e items → why ≡ outcome_number e
-    → said d (ran_line steps why items ++ items_text list items) ≡ run_told d (run_values o) list
-run_end d list {o} {steps} {why} {items} {e} told h =
-    ap (λ (n : ℕ). said d (ran_line steps n items ++ items_text list items)) h ∙ ap (λ (o : RunReply). run_told d (run_values o) list) (sym told)
+pub run_end : (d : Device) (list : List ℕ) (steps items why : ℕ) (o : Outcome) → why ≡ outcome_number o
+    → said d (ran_line steps why items ++ items_text list items) ≡ run_told d (RunValues.ran steps (outcome_number o) items) list
+run_end d list steps items why o h = ap (λ (n : ℕ). said d (ran_line steps n items ++ items_text list items)) h
 
 -- what is said, by equal parts
 module _ (u : DisplayUnit) where

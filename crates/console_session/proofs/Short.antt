@@ -1,4 +1,6 @@
 -- No answer has more than 487,600 bytes: a run's line and the lines of its items, 4,096 of them at most, each of 119 bytes at most.
+use Rattle.std.specs.Prelude.{Err, Ok, Result}
+use Rattle.ground_refusals.specs.declared.Refusal.{Refusal}
 use Prim.Native.Nat.{ℕ, suc, ◌+◌, ◌*◌, ◌/◌, ◌≤◌, min}
 use mathlib.Core.Path.{◌≡◌, refl}
 use mathlib.Core.Bool.{Bool, true, false, cond}
@@ -18,16 +20,12 @@ use Rattle.ground_refusals.specs.Refusals.{refusal_number}
 use Rattle.ground_setup.specs.Setup.{size_of, wrap_of, ahead_of, sized_of}
 use Rattle.ground_setup.specs.declared.Size.{Size}
 use Rattle.ground_setup.specs.declared.Size.TheVariants.{K4, K8}
-use Rattle.ground_setup.specs.declared.Sized.{Sized}
-use Rattle.ground_setup.specs.declared.Sized.TheVariants as sized
 use Rattle.unit_buffer.specs.declared.Read.{Read}
 use Rattle.unit_buffer.specs.Buffer.{found_at, reads_on, read_from}
 use Rattle.unit_codes.specs.Codes.{row_of, sent_by}
 use Rattle.unit_codes.specs.declared.Command.{Command}
 use Rattle.unit_codes.specs.declared.Command.TheVariants.{TestIo, WriteBuffer, ReadBuffer, NoOperation, Sense, ReadCursor, SetAndStop, Alarm, InsertCursor, ReadXy, RemoveCursor, SetAndStart, Invalid}
 use Rattle.unit_codes.specs.declared.CommandRow.{CommandRow}
-use Rattle.unit_codes.specs.declared.Sent.{Sent}
-use Rattle.unit_codes.specs.declared.Sent.TheVariants as sent
 use Rattle.unit_sense.specs.Sense.{four_count}
 use Rattle.unit_commands.specs.Commands.{CommandValues, CommandEnd, reset, read_by, done_of, allowed, tried_command, command_by, unit_command}
 use Rattle.unit_cursor.specs.Cursor.{Buffer, any_set}
@@ -127,9 +125,9 @@ command_gives u code bytes room = by (sent_by (size_in u) this_row.takes bytes)
     this_row : CommandRow
     this_row = row_of code
 
-    by : (sent : Sent) → Ends-within room (command_by u this_row bytes room sent)
-    by (sent.Refused r) = tt
-    by sent.Fit =
+    by : (sent : Result (Unit {0}) Refusal) → Ends-within room (command_by u this_row bytes room sent)
+    by (Err r) = tt
+    by (Ok tt) =
         either_way (Ends-within room) (eqb u.head.status 0)
         (either_way (Ends-within room) (allowed this_row.running u.head.state.running) (done_gives u this_row.command bytes room) (omega arith))
         (omega arith)
@@ -190,9 +188,9 @@ state_short h =
     (omega (arith, mode_short h.state.mode, pen_short h.state.pen.mode, length_decimal 20 h.state.address, length_decimal 20 h.state.beam.x, length_decimal 20 h.state.beam.y))
 
 -- what is said for each request
-fresh_within : (d : Device) (size : Sized) → ShortSaid (fresh_said d size)
-fresh_within d (sized.Of s) = omega arith
-fresh_within d (sized.Refused r) = refusal_short (refusal_number r)
+fresh_within : (d : Device) (size : Result Size Refusal) → ShortSaid (fresh_said d size)
+fresh_within d (Ok s) = omega arith
+fresh_within d (Err r) = refusal_short (refusal_number r)
 
 load_within : (d : Device) (answer : LoadValues) → ShortSaid (load_told d answer)
 load_within d LoadValues.loaded = omega arith

@@ -1,5 +1,7 @@
 -- The console's language: what each request does to the unit and what is printed for it.
-use Rattle.std.specs.Prelude.{ℕ, ◌*◌, ◌/◌, ◌≤◌, ◌≡◌, true, false, cond, List, [], ◌++◌, length, replicate, leb}
+use Rattle.std.specs.Prelude.{ℕ, ◌*◌, ◌/◌, ◌≤◌, ◌≡◌, true, false, cond, List, [], ◌++◌, length, replicate, leb, Err, Ok, Result}
+use Rattle.ground_setup.specs.declared.Size.{Size}
+use Rattle.ground_refusals.specs.declared.Refusal.{Refusal}
 use Rattle.text_put.specs.Text.{spelled, put_at, end_of}
 use Rattle.ground_refusals.specs.Refusals.{refusal_number}
 use Rattle.ground_setup.specs.Setup.{size_of, sized_of}
@@ -10,8 +12,6 @@ use Rattle.console_pictures.specs.Pictures.{items_text}
 use Rattle.console_conditions.specs.Conditions.{state_line}
 use Rattle.device_2250.specs.Device.{unit_of, device_of, fresh_of, switched_of, any_cursor}
 use Rattle.device_2250.specs.declared.Device.{Device}
-use Rattle.ground_setup.specs.declared.Sized.{Sized}
-use Rattle.ground_setup.specs.declared.Sized.TheVariants as sized
 use Rattle.unit_loading.specs.Loading.{LoadValues, LoadEnd, unit_load}
 use Rattle.unit_commands.specs.Commands.{CommandValues, CommandEnd, unit_command}
 use Rattle.typing_keys.specs.Keys.{KeyValues, KeyEnd, unit_key}
@@ -19,7 +19,6 @@ use Rattle.console_script.specs.Script.{rest_of, request_of}
 use Rattle.console_script.specs.declared.Request.{Request}
 use Rattle.console_script.specs.declared.Request.TheVariants as request
 use Rattle.console_decode.specs.Decode.{bytes_in, words_in, sights_in}
-use Rattle.console_session.specs.declared.Spoken.{Spoken}
 
 -- what a request leads to: the device after it, and the text that is printed
 pub record Said : Type 0 where
@@ -34,9 +33,9 @@ abbrev pub refused_said : Device → ℕ → Said
 refused_said d n = said d (refusal_line n)
 
 -- `fresh SIZE`: `ok` or `refused N`
-abbrev pub fresh_said : Device → Sized → Said
-fresh_said d (sized.Of s) = said (fresh_of s) ok_line
-fresh_said d (sized.Refused r) = refused_said d (refusal_number r)
+abbrev pub fresh_said : Device → Result Size Refusal → Said
+fresh_said d (Ok s) = said (fresh_of s) ok_line
+fresh_said d (Err r) = refused_said d (refusal_number r)
 
 -- `load SIZE WORDS`: `ok` or `refused N`
 abbrev pub load_told : Device → LoadValues → Said
@@ -131,8 +130,8 @@ Fits request.Cursor = Unit {0}
 Fits request.Empty = Unit {0}
 Fits request.Error = Unit {0}
 
--- what a call ensures that answers a request: the device, where the text ends, and the text put into the buffer
-pub record Speaks (s : Said) (buffer : List ℕ) (at : ℕ) (after : List ℕ) (told : Spoken) : Type 0 where
-  pub device : told.device ≡ s.device
-  pub end : told.end ≡ end_of buffer at s.text
+-- what a call ensures that answers a request: the device that it leaves, where the text ends, and the text put into the buffer
+pub record Speaks (s : Said) (buffer : List ℕ) (at : ℕ) (after : List ℕ) (left : Device) (ends : ℕ) : Type 0 where
+  pub device : left ≡ s.device
+  pub end : ends ≡ end_of buffer at s.text
   pub lines : after ≡ put_at buffer at s.text

@@ -1,17 +1,17 @@
-// The console's requests, each answered by the unit: the device after it, and its answer put into a buffer that the caller lends.
+// The console's requests, each answered by the unit, which is left as the request makes it: the answer is put into a buffer that the caller
+// lends.
 //
 // The contracts cite `specs/Session.antt`.
 #![tactic(auto)]
 
-ghost use Rattle.std.specs.Prelude.{[], ◌*◌, ◌≤◌, length, replicate};
-ghost use Rattle.console_replies.specs.Replies.{ok_line, error_line};
-ghost use Rattle.ground_refusals.specs.Refusals.{refusal_number};
+ghost use Rattle.std.specs.Prelude.{◌*◌, ◌≤◌, length, replicate};
+ghost use Rattle.ground_setup.specs.Setup.{sized_of};
 ghost use Rattle.unit_loading.specs.Loading.{unit_load};
 ghost use Rattle.unit_commands.specs.Commands.{command_values, unit_command};
 ghost use Rattle.device_2250.specs.Device.{unit_of, load_leaves, key_leaves};
 ghost use Rattle.console_run.specs.Pair.{run_values, pair_run};
 ghost use Rattle.console_decode.specs.Decode.{bytes_in, words_in, sights_in};
-ghost use Rattle.console_session.specs.Session.{said, refused_said, fresh_said, load_said, command_told, command_said, run_told, run_said, key_said, state_said, cursor_said, words_said, bytes_sent, dump_sent, sights_sent, Fits, said_by, said_of, Speaks};
+ghost use Rattle.console_session.specs.Session.{fresh_said, load_said, command_told, command_said, run_told, run_said, key_said, cursor_said, words_said, bytes_sent, dump_sent, sights_sent, Fits, said_by, said_of, Speaks};
 
 use console_conditions as conditions;
 use console_contents as contents;
@@ -20,101 +20,59 @@ use console_phrases as phrases;
 use console_pictures as pictures;
 use console_replies as replies;
 use console_run as run;
-use console_run::RunReply;
+use console_run::Ran;
 use console_script as script;
 use console_script::Request;
-use device_2250 as device;
-use device_2250::{Device, Keyed, Loaded};
-use ground_refusals as refusals;
+use device_2250::Device;
 use ground_refusals::Refusal;
-use ground_setup as setup;
-use ground_setup::Sized;
-use typing_keys::KeyReply;
+use ground_setup::Size;
+use text_put::Printed;
+use typing_keys::Heard;
 use unit_commands::Reply;
-use unit_loading::LoadReply;
-
-// The device after a request, and where its answer ends.
-#[derive(Clone, Copy)]
-pub struct Spoken {
-    pub device: Device,
-    pub end: usize,
-}
-
-// A request that is done.
-fn done(device: Device, lines: &mut [u8], at: usize) -> Spoken
-    ensures { Speaks (said device ok_line) lines.old at lines.new result }
-{
-    let end = replies::put_ok(lines, at);
-    Spoken { device, end }
-}
-
-// A request that is refused.
-fn refused(device: Device, refusal: Refusal, lines: &mut [u8], at: usize) -> Spoken
-    ensures { Speaks (refused_said device (refusal_number refusal)) lines.old at lines.new result }
-{
-    let number = refusals::refusal_number(refusal);
-    let end = replies::put_refused(lines, at, number);
-    Spoken { device, end }
-}
-
-// What is no request.
-fn wrong(device: Device, lines: &mut [u8], at: usize) -> Spoken
-    ensures { Speaks (said device error_line) lines.old at lines.new result }
-{
-    let end = replies::put_error(lines, at);
-    Spoken { device, end }
-}
-
-// A line that is passed over.
-#[tactic(auto, using(text_put::proofs::Laws::put_no_text))]
-fn passed_over(device: Device, lines: &mut [u8], at: usize) -> Spoken
-    ensures { Speaks (said device []) lines.old at lines.new result }
-{
-    let end = phrases::put_nothing(lines, at);
-    Spoken { device, end }
-}
 
 // A fresh unit of a size.
-fn fresh_by(device: Device, size: Sized, lines: &mut [u8], at: usize) -> Spoken
-    ensures { Speaks (fresh_said device size) lines.old at lines.new result }
+fn fresh(device: &mut Device, size: usize, lines: &mut [u8], at: usize) -> usize
+    ensures { Speaks (fresh_said device.old (sized_of size)) lines.old at lines.new device.new result }
 {
-    match size {
-        Sized::Of(s) => done(device::fresh(s), lines, at),
-        Sized::Refused(refusal) => refused(device, refusal, lines, at),
+    match Size::try_from(size) {
+        Ok(size) => {
+            *device = Device::fresh(size);
+            replies::put_ok(lines, at)
+        }
+        Err(refusal) => replies::put_refused(lines, at, u8::from(refusal)),
     }
 }
 
 // A dump that was loaded, or refused.
-fn loaded_by(loaded: Loaded, lines: &mut [u8], at: usize) -> Spoken
-    ensures { Speaks (load_said (load_leaves loaded)) lines.old at lines.new result }
+fn loaded(device: &Device, answer: Result<(), Refusal>, lines: &mut [u8], at: usize) -> usize
+    ensures { Speaks (load_said (load_leaves device.now answer)) lines.old at lines.new device.now result }
 {
-    let device = loaded.device;
-    let answer = loaded.answer;
     match answer {
-        LoadReply::Done => done(device, lines, at),
-        LoadReply::Refused(refusal) => refused(device, refusal, lines, at),
+        Ok(()) => replies::put_ok(lines, at),
+        Err(refusal) => replies::put_refused(lines, at, u8::from(refusal)),
     }
 }
 
 // Loads the words of a text, by way of a dump of so many.
 fn load_through(
-    device: Device,
+    device: &mut Device,
     size: usize,
     text: &[u8],
     dump: &mut [u16],
     lines: &mut [u8],
     at: usize,
-) -> Spoken
-    ensures { Speaks (load_said (unit_load (unit_of device) size (words_in text.now (length dump.old)))) lines.old at lines.new result }
+) -> usize
+    ensures { Speaks (load_said (unit_load (unit_of device.old) size (words_in text.now (length dump.old)))) lines.old at lines.new device.new result }
 {
     decode::read_words(text, dump);
-    loaded_by(device::load(device, size, dump), lines, at)
+    let answer = device.load(size, dump);
+    loaded(device, answer, lines, at)
 }
 
 // Loads the words of a text.
-fn load_text(device: Device, size: usize, text: &[u8], lines: &mut [u8], at: usize) -> Spoken
+fn load_text(device: &mut Device, size: usize, text: &[u8], lines: &mut [u8], at: usize) -> usize
     requires { length text.now ≤ 40000 }
-    ensures { Speaks (load_said (unit_load (unit_of device) size (dump_sent text.now))) lines.old at lines.new result }
+    ensures { Speaks (load_said (unit_load (unit_of device.old) size (dump_sent text.now))) lines.old at lines.new device.new result }
 {
     let mut dump = [0u16; 10000];
     let count = text.len() / 4;
@@ -122,48 +80,50 @@ fn load_text(device: Device, size: usize, text: &[u8], lines: &mut [u8], at: usi
 }
 
 // A command's status, with the bytes that it gave, or its refusal.
-fn replied(device: Device, reply: Reply, room: &[u8], lines: &mut [u8], at: usize) -> Spoken
-    ensures { Speaks (command_told device (command_values reply) room.now) lines.old at lines.new result }
+// Beside loaded: each tells its own answer, and a refusal is told by one function.
+fn replied(
+    device: &Device,
+    answer: Result<Reply, Refusal>,
+    room: &[u8],
+    lines: &mut [u8],
+    at: usize,
+) -> usize
+    ensures { Speaks (command_told device.now (command_values answer) room.now) lines.old at lines.new device.now result }
 {
-    match reply {
-        Reply::Status(status, count) => {
-            let end = contents::put_status(lines, at, status, room, count);
-            Spoken { device, end }
-        }
-        Reply::Refused(refusal) => refused(device, refusal, lines, at),
+    match answer {
+        Ok(reply) => contents::put_status(lines, at, reply.status, room, reply.count),
+        Err(refusal) => replies::put_refused(lines, at, u8::from(refusal)),
     }
 }
 
 // Gives a command with the bytes of a text, by way of so many data, and lends it a room.
 fn command_through(
-    device: Device,
+    device: &mut Device,
     code: u8,
     text: &[u8],
     bytes: &mut [u8],
     room: &mut [u8],
     lines: &mut [u8],
     at: usize,
-) -> Spoken
-    ensures { Speaks (command_said (unit_command (unit_of device) code (bytes_in text.now (length bytes.old)) room.old)) lines.old at lines.new result }
+) -> usize
+    ensures { Speaks (command_said (unit_command (unit_of device.old) code (bytes_in text.now (length bytes.old)) room.old)) lines.old at lines.new device.new result }
 {
     decode::read_bytes(text, bytes);
-    let answered = device::command(device, code, bytes, room);
-    let after = answered.device;
-    let reply = answered.answer;
-    replied(after, reply, room, lines, at)
+    let answer = device.command(code, bytes, room);
+    replied(device, answer, room, lines, at)
 }
 
 // Gives a command with the bytes of a text and a room of so many bytes.
 fn command_text(
-    device: Device,
+    device: &mut Device,
     code: u8,
     count: usize,
     text: &[u8],
     lines: &mut [u8],
     at: usize,
-) -> Spoken
+) -> usize
     requires { (count ≤ 65535) × (length text.now ≤ 40000) }
-    ensures { Speaks (command_said (unit_command (unit_of device) code (bytes_sent text.now) (replicate count 0))) lines.old at lines.new result }
+    ensures { Speaks (command_said (unit_command (unit_of device.old) code (bytes_sent text.now) (replicate count 0))) lines.old at lines.new device.new result }
 {
     let mut bytes = [0u8; 20000];
     let mut room = [0u8; 65535];
@@ -180,44 +140,46 @@ fn command_text(
 }
 
 // A run's steps, end and items, or its refusal.
-fn ran_by(device: Device, answer: RunReply, list: &[u16], lines: &mut [u8], at: usize) -> Spoken
-    ensures { Speaks (run_told device (run_values answer) list.now) lines.old at lines.new result }
+fn ran(
+    device: &Device,
+    answer: Result<Ran, Refusal>,
+    list: &[u16],
+    lines: &mut [u8],
+    at: usize,
+) -> usize
+    ensures { Speaks (run_told device.now (run_values answer) list.now) lines.old at lines.new device.now result }
 {
     match answer {
-        RunReply::Done(steps, outcome, items) => {
-            let why = run::outcome_number(outcome);
-            let middle = replies::put_ran(lines, at, steps, why, items);
-            let end = pictures::put_items(lines, middle, list, items);
-            Spoken { device, end }
+        Ok(ran) => {
+            let why = u8::from(ran.outcome);
+            let middle = replies::put_ran(lines, at, ran.steps, why, ran.items);
+            pictures::put_items(lines, middle, list, ran.items)
         }
-        RunReply::Refused(refusal) => refused(device, refusal, lines, at),
+        Err(refusal) => replies::put_refused(lines, at, u8::from(refusal)),
     }
 }
 
 // Runs the unit over the sights of a text, by way of so many sights, and lends it a list.
 fn run_through(
-    mut device: Device,
+    device: &mut Device,
     text: &[u8],
     sights: &mut [u8],
     list: &mut [u16],
     lines: &mut [u8],
     at: usize,
-) -> Spoken
-    ensures { Speaks (run_said (pair_run (unit_of device) (sights_in text.now (length sights.old)) list.old)) lines.old at lines.new result }
+) -> usize
+    ensures { Speaks (run_said (pair_run (unit_of device.old) (sights_in text.now (length sights.old)) list.old)) lines.old at lines.new device.new result }
 {
     decode::read_sights(text, sights);
-    let head = device.head;
-    let ran = run::run(&device.words, head, sights, list);
-    let after = ran.head;
-    let answer = ran.answer;
-    device.head = after;
-    ran_by(device, answer, list, lines, at)
+    let answer = run::run(&device.words, &mut device.head, sights, list);
+    ran(device, answer, list, lines, at)
 }
 
 // Runs the unit over the sights of a text with room for so many items.
-fn run_text(device: Device, room: usize, text: &[u8], lines: &mut [u8], at: usize) -> Spoken
+// Beside command_text: the buffers that it lends are of other types and sizes.
+fn run_text(device: &mut Device, room: usize, text: &[u8], lines: &mut [u8], at: usize) -> usize
     requires { (room ≤ 4096) × (length text.now ≤ 40000) }
-    ensures { Speaks (run_said (pair_run (unit_of device) (sights_sent text.now) (replicate (8 * room) 0))) lines.old at lines.new result }
+    ensures { Speaks (run_said (pair_run (unit_of device.old) (sights_sent text.now) (replicate (8 * room) 0))) lines.old at lines.new device.new result }
 {
     let mut sights = [0u8; 40000];
     let mut list = [0u16; 32768];
@@ -234,62 +196,50 @@ fn run_text(device: Device, room: usize, text: &[u8], lines: &mut [u8], at: usiz
 }
 
 // A key that was heard or not, or is refused.
-fn keyed_by(keyed: Keyed, lines: &mut [u8], at: usize) -> Spoken
-    ensures { Speaks (key_said (key_leaves keyed)) lines.old at lines.new result }
+fn keyed(
+    device: &Device,
+    answer: Result<Option<Heard>, Refusal>,
+    lines: &mut [u8],
+    at: usize,
+) -> usize
+    ensures { Speaks (key_said (key_leaves device.now answer)) lines.old at lines.new device.now result }
 {
-    let device = keyed.device;
-    let answer = keyed.answer;
     match answer {
-        KeyReply::Refused(refusal) => refused(device, refusal, lines, at),
-        KeyReply::Unheard => {
-            let end = replies::put_heard(lines, at, false);
-            Spoken { device, end }
-        }
-        KeyReply::Heard(_, _) => {
-            let end = replies::put_heard(lines, at, true);
-            Spoken { device, end }
-        }
+        Ok(None) => replies::put_heard(lines, at, false),
+        Ok(Some(_)) => replies::put_heard(lines, at, true),
+        Err(refusal) => replies::put_refused(lines, at, u8::from(refusal)),
     }
 }
 
-// The state of the unit.
-fn show_state(device: Device, lines: &mut [u8], at: usize) -> Spoken
-    ensures { Speaks (state_said device) lines.old at lines.new result }
-{
-    let head = device.head;
-    let end = conditions::put_state(lines, at, head);
-    Spoken { device, end }
-}
-
 // Whether any cursor is set.
-fn show_cursor(device: Device, lines: &mut [u8], at: usize) -> Spoken
-    ensures { Speaks (cursor_said device) lines.old at lines.new result }
+fn show_cursor(device: &Device, lines: &mut [u8], at: usize) -> usize
+    ensures { Speaks (cursor_said device.now) lines.old at lines.new device.now result }
 {
-    let any = device::any_cursor(device);
-    let end = phrases::put_either(lines, at, any, b"yes\n", b"no\n");
-    Spoken { device, end }
+    phrases::either(device.any_cursor(), b"yes\n", b"no\n").put(lines, at)
 }
 
 // Words of the unit.
-fn show_words(device: Device, from: usize, count: usize, lines: &mut [u8], at: usize) -> Spoken
-    ensures { Speaks (words_said device from count) lines.old at lines.new result }
+fn show_words(device: &Device, from: usize, count: usize, lines: &mut [u8], at: usize) -> usize
+    ensures { Speaks (words_said device.now from count) lines.old at lines.new device.now result }
 {
-    let head = device.head;
-    let state = head.state;
-    let setup = state.setup;
-    let size = setup.size;
-    let end = contents::put_words(lines, at, &device.words, size, from, count);
-    Spoken { device, end }
+    let size = device.head.state.setup.size;
+    contents::put_words(lines, at, &device.words, size, from, count)
 }
 
 // Answers a request of a line.
-#[tactic(auto, using(crate::proofs::Laws::rest_shorter))]
-fn answer_by(device: Device, line: &[u8], request: Request, lines: &mut [u8], at: usize) -> Spoken
+#[tactic(auto, using(crate::proofs::Laws::rest_shorter, text_put::proofs::Laws::put_no_text))]
+fn answer_by(
+    device: &mut Device,
+    line: &[u8],
+    request: Request,
+    lines: &mut [u8],
+    at: usize,
+) -> usize
     requires { (length line.now ≤ 40000) × Fits request }
-    ensures { Speaks (said_by device line.now request) lines.old at lines.new result }
+    ensures { Speaks (said_by device.old line.now request) lines.old at lines.new device.new result }
 {
     match request {
-        Request::Fresh(size) => fresh_by(device, setup::size_from(size), lines, at),
+        Request::Fresh(size) => fresh(device, size, lines, at),
         Request::Load(size) => {
             let text = script::rest_of(script::rest_of(line));
             load_text(device, size, text, lines, at)
@@ -298,29 +248,42 @@ fn answer_by(device: Device, line: &[u8], request: Request, lines: &mut [u8], at
             let text = script::rest_of(script::rest_of(script::rest_of(line)));
             command_text(device, code, room, text, lines, at)
         }
-        Request::Halt => done(device::halt(device), lines, at),
-        Request::SwitchOpen => done(device::switch_to(device, false), lines, at),
-        Request::SwitchClosed => done(device::switch_to(device, true), lines, at),
+        Request::Halt => {
+            device.halt();
+            replies::put_ok(lines, at)
+        }
+        Request::SwitchOpen => {
+            device.switch_to(false);
+            replies::put_ok(lines, at)
+        }
+        Request::SwitchClosed => {
+            device.switch_to(true);
+            replies::put_ok(lines, at)
+        }
         Request::Run(room) => {
             let text = script::rest_of(script::rest_of(line));
             run_text(device, room, text, lines, at)
         }
-        Request::State => show_state(device, lines, at),
+        Request::State => conditions::put_state(lines, at, device.head),
         Request::Words(from, count) => show_words(device, from, count, lines, at),
-        Request::Key(number) => keyed_by(device::key(device, number), lines, at),
+        Request::Key(number) => {
+            let answer = device.key(number);
+            keyed(device, answer, lines, at)
+        }
         Request::Cursor => show_cursor(device, lines, at),
-        Request::Empty => passed_over(device, lines, at),
-        Request::Error => wrong(device, lines, at),
+        Request::Empty => phrases::put_nothing(lines, at),
+        Request::Error => replies::put_error(lines, at),
     }
 }
 
-// Answers a line of a script: the unit after it, and its answer put into the buffer from a place on.
+// Answers a line of a script: the unit is left as it makes it, and its answer put into the buffer from a place on.
 #[tactic(auto, using(crate::proofs::Laws::said_short, crate::proofs::Laws::said_long, crate::proofs::Fits::request_fits))]
-pub fn answer(device: Device, line: &[u8], lines: &mut [u8], at: usize) -> Spoken
-    ensures { Speaks (said_of device line.now) lines.old at lines.new result }
+pub fn answer(device: &mut Device, line: &[u8], lines: &mut [u8], at: usize) -> usize
+    ensures { Speaks (said_of device.old line.now) lines.old at lines.new device.new result }
 {
     if line.len() <= 40000 {
-        return answer_by(device, line, script::request_of(line), lines, at);
+        answer_by(device, line, script::request_of(line), lines, at)
+    } else {
+        replies::put_error(lines, at)
     }
-    wrong(device, lines, at)
 }

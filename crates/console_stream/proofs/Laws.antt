@@ -1,118 +1,69 @@
--- Texts written one behind the other, pieces answered one after the other, and what was printed at the end.
-use Prim.Native.Nat.{ℕ, ◌+◌, ◌≤◌}
-use mathlib.Core.Path.{◌≡◌, refl, sym, ap, subst, ◌∙◌}
-use mathlib.Core.Bool.{true}
-use mathlib.Core.List.{List, [], ◌++◌}
+-- A dialogue that listens: before the first piece, behind one, and at the end of the input.
+use Prim.Native.Nat.{ℕ}
+use mathlib.Core.Path.{◌≡◌, sym, ap, ◌∙◌}
+use mathlib.Core.List.{List, [], ◌++◌, append_assoc}
 use native.Mathlib.Omega.{arith}
-use lib.ListN.{length, take, drop, replicate, length-append, length-replicate}
-use lib.Seq.{take_all, take-add}
+use lib.ListN.{length, take, drop, take-append-drop}
 use Rattle.text_put.specs.Text.{end_of}
-use Rattle.text_put.proofs.Laws.{Puts, length_put}
-use Rattle.text_output.specs.Output.{Handed}
-use Rattle.text_output.specs.declared.Output.{Output}
-use Rattle.text_stream.specs.declared.Streamed.{Streamed}
-use Rattle.console_dialogue.specs.Dialogue.{first_dialogue, to_come, Answers, TakesIn}
+use Rattle.text_put.proofs.Laws.{Puts, put_whole}
+use Rattle.text_stream.specs.Listen.{Takes, Closes}
+use Rattle.text_pieces.specs.declared.Fed.{Fed}
+use Rattle.console_session.specs.Play.{play_of}
+use Rattle.console_dialogue.specs.Dialogue.{first_dialogue, to_come, TakesIn, LeavesOver}
 use Rattle.console_dialogue.specs.declared.Dialogue.{Dialogue}
-use Rattle.console_dialogue.specs.declared.Taken.{Taken}
-use Rattle.console_dialogue.proofs.Laws.{answers_joined, closed_short}
+use Rattle.console_dialogue.proofs.Laws.{closed_short}
 use Rattle.console_dialogue.proofs.Stream.{whole}
-use Rattle.console_stream.specs.Stream.{HandedOver, Conveys, Holding, AllPlayed}
+use Rattle.console_stream.specs.Stream.{Played}
+use Rattle.console_stream.specs.declared.Holder.{Holder}
 
--- no text, one behind the other, and one that stands at the front of a buffer
-handed_none : (output : Output) → HandedOver output [] output
-handed_none output = record { was = λ h. h; count = λ h. omega arith }
+abbrev Stands : Holder → List ℕ → List ℕ → List ℕ → Type 0
+Stands h = Played h.dialogue h.kept
 
-handed_joined : (o p q : Output) (s t : List ℕ) → HandedOver o s p → HandedOver p t q → HandedOver o (s ++ t) q
-handed_joined o p q s t first second =
+pub played_first : (d : Dialogue) (kept : List ℕ) → d ≡ first_dialogue → Played d kept [] [] []
+played_first d kept e = record { start = kept; answers = λ more. ap (λ (x : Dialogue). to_come x kept more) (sym e) }
+
+played_on : (d d' : Dialogue) (kept kept' piece out out' : List ℕ) (t : Fed) → TakesIn d kept piece out 0 t d' kept' out' → (script text : List ℕ)
+    → Played d kept script piece text
+    → Played d' kept' script (drop t.used piece) (text ++ take t.end out')
+played_on d d' kept kept' piece out out' t takes script text x =
+    let given : take t.end out' ≡ takes.text = (put_whole out 0 takes.text t.end out' takes.room (takes.ends, takes.puts)).2 in
     record {
-      was = λ h. first.was (second.was h);
-      count = λ h. omega (arith, second.count h, first.count (second.was h), length-append s t);
-    }
-
-handed_put : (o p : Output) (out out' text : List ℕ) (end : ℕ) → length text ≤ length out → Puts out 0 text end out'
-    → Handed o (length out') end p
-    → HandedOver o text p
-unfolding end_of
-handed_put o p out out' text end room put wrote =
-    let size : length out' ≡ length out = ap length put.1 ∙ length_put out 0 text in
-    record { was = wrote.was; count = λ h. omega (arith, wrote.count h, put.0) }
-
--- as much of a piece as was answered
-pub conveys_none : (d : Dialogue) (kept piece : List ℕ) (output : Output) → Conveys d kept (take 0 piece) output d kept output
-conveys_none d kept piece output = record { text = []; answers = λ rest. refl; written = handed_none output }
-
-pub conveys_next : (d e : Dialogue) (kept kept₁ kept₂ piece rest out out' : List ℕ) (o p q : Output) (used : ℕ) (f : Taken)
-    → Conveys d kept (take used piece) o e kept₁ p
-    → rest ≡ drop used piece
-    → TakesIn e kept₁ rest out 0 f kept₂ out'
-    → Handed p (length out') f.end q
-    → Conveys d kept (take (used + f.used) piece) o f.dialogue kept₂ q
-conveys_next d e kept kept₁ kept₂ piece rest out out' o p q used f before is takes wrote =
-    let text : List ℕ = before.text ++ takes.text in
-    let both : take (used + f.used) piece ≡ take used piece ++ take f.used rest =
-    take-add used f.used piece ∙ ap (λ (l : List ℕ). take used piece ++ take f.used l) (sym is) in
-    record {
-      text = text;
+      start = x.start;
       answers =
-          subst (λ (l : List ℕ). Answers d kept l text f.dialogue kept₂) (sym both)
-          (answers_joined d e f.dialogue kept kept₁ kept₂ (take used piece) (take f.used rest) before.text takes.text before.answers takes.answers);
-      written =
-          handed_joined o p q before.text takes.text before.written
-          (handed_put p q out out' takes.text f.end (omega (arith, takes.room)) (takes.ends, takes.puts) wrote);
+          λ more.
+          let rest : List ℕ = drop t.used piece ++ more in
+          let cut : piece ++ more ≡ take t.used piece ++ rest =
+          ap (λ (l : List ℕ). l ++ more) (sym (take-append-drop t.used piece)) ∙ append_assoc (take t.used piece) (drop t.used piece) more in
+          x.answers more
+          ∙ ap (λ (l : List ℕ). text ++ to_come d kept l) cut
+          ∙ ap (λ (l : List ℕ). text ++ l) (takes.answers rest)
+          ∙ sym (append_assoc text takes.text (to_come d' kept' rest))
+          ∙ ap (λ (l : List ℕ). (text ++ l) ++ to_come d' kept' rest) (sym given);
     }
 
-pub conveys_all : (d d' : Dialogue) (kept kept' piece : List ℕ) (output output' : Output) (used : ℕ) → length piece ≤ used
-    → Conveys d kept (take used piece) output d' kept' output'
-    → Conveys d kept piece output d' kept' output'
-conveys_all d d' kept kept' piece output output' used all p =
-    subst (λ (l : List ℕ). Conveys d kept l output d' kept' output') (take_all used piece all) p
-
--- the program begins, and goes on behind a piece
-pub holding_first : (d : Dialogue) (kept : List ℕ) (output : Output) → d ≡ first_dialogue → output.written ≡ 0 → Holding d kept output 0
-holding_first d kept output e none =
+pub holder_takes : (h : Holder) (d' : Dialogue) (kept' piece out out' : List ℕ) (t : Fed) → length out ≡ 524288
+    → length out' ≡ 524288
+    → TakesIn h.dialogue h.kept piece out 0 t d' kept' out'
+    → LeavesOver piece out t
+    → Takes Stands h piece t (record { dialogue = d'; kept = kept' }) out'
+unfolding end_of
+holder_takes h d' kept' piece out out' t room size takes left =
     record {
-      start = kept;
-      script = [];
-      text = [];
-      answers = λ rest. ap (λ (x : Dialogue). to_come x kept rest) (sym e);
-      came = refl;
-      written = none;
+      within = takes.within;
+      ends = omega (arith, takes.ends);
+      on = λ script text x. played_on h.dialogue d' h.kept kept' piece out out' t takes script text x;
+      some = λ script text x few some. left.some (omega arith) some;
     }
 
-pub holding_on : (d d' : Dialogue) (kept kept' piece : List ℕ) (output output' : Output) (count n : ℕ) → length piece ≡ n
-    → output'.open ≡ true
-    → Conveys d kept piece output d' kept' output'
-    → Holding d kept output count
-    → Holding d' kept' output' (count + n)
-holding_on d d' kept kept' piece output output' count n size still p h =
+pub holder_closes : (h : Holder) (out out' : List ℕ) (end : ℕ) → length out ≡ 524288 → length out' ≡ 524288 → Puts out 0 (to_come h.dialogue h.kept []) end out'
+    → Closes Stands (λ script text. text ≡ play_of script) h end out'
+unfolding end_of
+holder_closes h out out' end room size puts =
     record {
-      start = h.start;
-      script = h.script ++ piece;
-      text = h.text ++ p.text;
-      answers = answers_joined first_dialogue d d' h.start kept kept' h.script piece h.text p.text h.answers p.answers;
-      came = omega (arith, length-append h.script piece, h.came);
-      written = omega (arith, length-append h.text p.text, h.written, p.written.count still);
+      ends = omega (arith, puts.0);
+      whole =
+          λ script text x.
+          let put =
+          put_whole out 0 (to_come h.dialogue h.kept []) end out' (omega (arith, closed_short h.dialogue h.kept)) puts in
+          ap (λ (l : List ℕ). text ++ l) put.2 ∙ whole h.dialogue x.start h.kept script text x.answers;
     }
-
--- the end of the input
-pub holding_closed : (d : Dialogue) (kept out out' : List ℕ) (output : Output) (count end : ℕ) (r : Streamed) → 487600 ≤ length out
-    → Puts out 0 (to_come d kept []) end out'
-    → Handed output (length out') end r.output
-    → r.output.open ≡ true
-    → r.came ≡ count
-    → Holding d kept output count
-    → AllPlayed r
-holding_closed d kept out out' output count end r room put wrote still came h =
-    let last : List ℕ = to_come d kept [] in
-    let told = whole d h.start kept h.script h.text h.answers in
-    let w = handed_put output r.output out out' last end (omega (arith, closed_short d kept)) put wrote in
-    record {
-      script = h.script;
-      came = h.came ∙ sym came;
-      written = omega (arith, w.count still, h.written, length-append h.text last, ap length told);
-    }
-
--- buffers of zeros have their size
-pub rooms : (small large : ℕ) → small ≤ 65536 → 487600 ≤ large
-    → (length (replicate {A = ℕ} small 0) ≤ 65536) × (487600 ≤ length (replicate {A = ℕ} large 0))
-rooms small large p q = (omega (arith, length-replicate {A = ℕ} small 0), omega (arith, length-replicate {A = ℕ} large 0))

@@ -3,7 +3,7 @@
 // The contracts cite `specs/Location.antt`; `proofs/Laws.antt` says what a stored word holds.
 #![tactic(auto)]
 
-ghost use Rattle.std.specs.Prelude.{◌≡◌, cond, ◌≤◌};
+ghost use Rattle.std.specs.Prelude.{◌≡◌, ◌≤◌};
 ghost use Rattle.ground_location.specs.Location.{data_of, cursor_of, parity_of, written_of, proper_of, good_of, word_of, parity_bit, fresh_word};
 
 // The word of a location that nothing was stored in.
@@ -48,25 +48,14 @@ pub fn proper(word: u16) -> bool
 pub fn good(word: u16) -> bool
     ensures { result ≡ good_of word }
 {
-    u16::count_ones(word % 0x400) % 2 == 1
-}
-
-// The bit where the flag is set, and 0 where it is not.
-fn bit(on: bool, mask: u16) -> u16
-    ensures { (result ≡ cond on mask 0) × (result ≤ mask) }
-{
-    if on { mask } else { 0 }
+    (word % 0x400).count_ones() % 2 == 1
 }
 
 // The parity bit that goes with data and C.
 fn parity_bit(low: u16) -> u16
     ensures { (result ≡ parity_bit low) × (result ≤ 0x200) }
 {
-    if u16::count_ones(low) % 2 == 0 {
-        0x200
-    } else {
-        0
-    }
+    if low.count_ones() % 2 == 0 { 0x200 } else { 0 }
 }
 
 // The word that a store makes: its ones among data, C and P are odd in number.
@@ -74,8 +63,8 @@ fn parity_bit(low: u16) -> u16
 pub fn word_of(byte: u8, cursor: bool, written: bool) -> u16
     ensures { result ≡ word_of byte cursor written }
 {
-    let low = (byte as u16) + bit(cursor, 0x100);
-    low + parity_bit(low) + bit(written, 0x400)
+    let low = u16::from(byte) + u16::from(cursor) * 0x100;
+    low + parity_bit(low) + u16::from(written) * 0x400
 }
 
 // The word of a location that nothing was stored in.

@@ -1,6 +1,7 @@
 -- One step of regeneration over the words of a buffer (01, "One step of regeneration"): what stands at a place, the faults in their
 -- order, and where the step goes. The device and the validator share it.
-use Rattle.std.specs.Prelude.{ℕ, ◌+◌, ◌*◌, ◌%◌, Bool, true, false, cond, eqb, ltb}
+use Rattle.std.specs.Prelude.{ℕ, ◌+◌, ◌*◌, ◌%◌, Bool, true, false, cond, eqb, ltb, None, Option, Some}
+use Rattle.ground_orders.specs.declared.Row.{Row}
 use Rattle.ground_setup.specs.Setup.{size_of, ahead_of}
 use Rattle.ground_orders.specs.Orders.{order_of}
 use Rattle.ground_setup.specs.declared.Setup.{Setup}
@@ -9,8 +10,6 @@ use Rattle.ground_orders.specs.declared.Mode.{Mode}
 use Rattle.ground_orders.specs.declared.Mode.TheVariants.{Idle, Point, Vector, IncrementalPoint, IncrementalVector, Basic, Large}
 use Rattle.ground_orders.specs.declared.Follows.{Follows}
 use Rattle.ground_orders.specs.declared.Follows.TheVariants as follows
-use Rattle.ground_orders.specs.declared.Found.{Found}
-use Rattle.ground_orders.specs.declared.Found.TheVariants.{Order, Missing}
 use Rattle.ground_groups.specs.declared.Group.{Group}
 use Rattle.ground_groups.specs.declared.Group.TheVariants as group
 use Rattle.ground_look.specs.declared.Fault.{Fault}
@@ -40,9 +39,9 @@ order_by s a n follows.Transfer = begun.Target false (ahead_of s a n)
 order_by s a n follows.NoDetect = begun.Target true (ahead_of s a n)
 
 -- "2 the code is in no row"
-abbrev pub found_by : Setup → ℕ → Found → Begun
-found_by su a Missing = begun.Done (look.Fault fault.NoRow)
-found_by su a (Order r) = order_by su.size a r.length r.follows
+abbrev pub found_by : Setup → ℕ → Option Row → Begun
+found_by su a None = begun.Done (look.Fault fault.NoRow)
+found_by su a (Some r) = order_by su.size a r.length r.follows
 
 -- "Point and vector read A+2 and A+3 too": their data are coordinates
 abbrev pub placing : Mode → Bool

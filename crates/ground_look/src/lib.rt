@@ -3,19 +3,17 @@
 // The contracts cite `specs/Look.antt`, which the device and the validator share.
 #![tactic(auto)]
 
-ghost use Rattle.std.specs.Prelude.{◌≡◌, ◌+◌, ◌*◌, ◌<◌};
-ghost use Rattle.ground_groups.specs.Groups.{words_group, image_group};
+ghost use Rattle.std.specs.Prelude.{◌≡◌, ◌<◌};
 ghost use Rattle.ground_look.specs.Look.{fault_number, order_by, found_by, placing, data_by, first_by, target_by, target_in, coordinate_in, look_of};
 
-use ground_groups as groups;
-use ground_groups::Group;
+use ground_groups::{Group, Source};
 use ground_orders as orders;
-use ground_orders::{Follows, Found, Mode, PenMode};
+use ground_orders::{Follows, Mode, PenMode, Row};
 use ground_setup as setup;
 use ground_setup::{Setup, Size};
 
 // The faults of a step.
-#[derive(Clone, Copy)]
+#[derive(Clone, Copy, PartialEq, Eq)]
 pub enum Fault {
     // 1: a byte to be read is unwritten.
     Unwritten,
@@ -30,6 +28,7 @@ pub enum Fault {
 }
 
 // What a step finds, with the bytes read and the next address.
+// Not a Result: a look at a fault is a look like any other, and the definitions match on it.
 #[derive(Clone, Copy)]
 pub enum Look {
     // A fault.
@@ -68,15 +67,17 @@ pub enum Begun {
 }
 
 // The number that 01 gives a fault.
-pub fn fault_number(fault: Fault) -> u8
-    ensures { (result ≡ fault_number fault) × (result < 6) }
-{
-    match fault {
-        Fault::Unwritten => 1,
-        Fault::NoRow => 2,
-        Fault::OddTarget => 3,
-        Fault::FarTarget => 4,
-        Fault::OrderForY => 5,
+impl From<Fault> for u8 {
+    ghost from_gives = { λ fault n. (n ≡ fault_number fault) × (n < 6) };
+
+    fn from(fault: Fault) -> u8 {
+        match fault {
+            Fault::Unwritten => 1,
+            Fault::NoRow => 2,
+            Fault::OddTarget => 3,
+            Fault::FarTarget => 4,
+            Fault::OrderForY => 5,
+        }
     }
 }
 
@@ -97,16 +98,12 @@ fn order_by(size: Size, at: usize, n: u8, follows: Follows) -> Begun
 }
 
 // What a row that was looked for makes of a step.
-fn found_by(setup: Setup, at: usize, found: Found) -> Begun
+fn found_by(setup: Setup, at: usize, found: Option<Row>) -> Begun
     ensures { result ≡ found_by setup at found }
 {
     match found {
-        Found::Missing => Begun::Done(Look::Fault(Fault::NoRow)),
-        Found::Order(row) => {
-            let size = setup.size;
-            let follows = row.follows;
-            order_by(size, at, row.length, follows)
-        }
+        None => Begun::Done(Look::Fault(Fault::NoRow)),
+        Some(row) => order_by(setup.size, at, row.length, row.follows),
     }
 }
 
@@ -114,15 +111,7 @@ fn found_by(setup: Setup, at: usize, found: Found) -> Begun
 pub fn is_placing(mode: Mode) -> bool
     ensures { result ≡ placing mode }
 {
-    match mode {
-        Mode::Idle => false,
-        Mode::Point => true,
-        Mode::Vector => true,
-        Mode::IncrementalPoint => false,
-        Mode::IncrementalVector => false,
-        Mode::Basic => false,
-        Mode::Large => false,
-    }
+    matches!(mode, Mode::Point | Mode::Vector)
 }
 
 // What data make of a step in a mode.
@@ -140,7 +129,6 @@ fn data_by(size: Size, at: usize, a: u8, b: u8, mode: Mode) -> Begun
 fn first_by(setup: Setup, at: usize, mode: Mode, group: Group) -> Begun
     ensures { result ≡ first_by setup at mode group }
 {
-    let size = setup.size;
     match group {
         Group::Unwritten => Begun::Done(Look::Fault(Fault::Unwritten)),
         Group::Bad(bad) => Begun::Done(Look::Check(bad)),
@@ -148,7 +136,7 @@ fn first_by(setup: Setup, at: usize, mode: Mode, group: Group) -> Begun
             if even == 0x2A {
                 found_by(setup, at, orders::order_of(odd))
             } else {
-                data_by(size, at, even, odd, mode)
+                data_by(setup.size, at, even, odd, mode)
             }
         }
     }
@@ -159,24 +147,14 @@ fn target_by(size: Size, may: bool, next: usize, target: usize) -> Look
     ensures { result ≡ target_by size may next target }
 {
     if target % 2 == 1 {
-        return Look::Fault(Fault::OddTarget);
-    }
-    if target < setup::size_of(size) {
-        if may {
-            Look::Either(target, next)
-        } else {
-            Look::Jump(target)
-        }
-    } else {
+        Look::Fault(Fault::OddTarget)
+    } else if target >= setup::size_of(size) {
         Look::Fault(Fault::FarTarget)
+    } else if may {
+        Look::Either(target, next)
+    } else {
+        Look::Jump(target)
     }
-}
-
-// The address of two bytes, high byte first.
-fn address_of(high: u8, low: u8) -> usize
-    ensures { result ≡ high * 0x100 + low }
-{
-    (high as usize) * 0x100 + (low as usize)
 }
 
 // What the second group makes of a transfer.
@@ -186,7 +164,7 @@ fn target_in(size: Size, may: bool, next: usize, group: Group) -> Look
     match group {
         Group::Unwritten => Look::Fault(Fault::Unwritten),
         Group::Bad(bad) => Look::Check(bad),
-        Group::Bytes(a, b) => target_by(size, may, next, address_of(a, b)),
+        Group::Bytes(a, b) => target_by(size, may, next, setup::address_of(a, b)),
     }
 }
 
@@ -207,56 +185,20 @@ fn coordinate_in(x_high: u8, x_low: u8, next: usize, group: Group) -> Look
     }
 }
 
-// One look at a place of a buffer.
+// One look at a place of a buffer or of an image.
 #[tactic(auto, unfolding(crate::specs::Look::look_of))]
-pub fn look_at(words: &[u16], setup: Setup, at: usize, mode: Mode) -> Look
-    ensures { result ≡ look_of (words_group words.now setup) setup at mode }
+pub fn look_at<S: Source>(source: S, setup: Setup, at: usize, mode: Mode) -> Look
+    ensures { result ≡ look_of (S.group source setup) setup at mode }
 {
-    let size = setup.size;
-    match first_by(setup, at, mode, groups::group_at(words, setup, at)) {
+    match first_by(setup, at, mode, source.group_at(setup, at)) {
         Begun::Done(look) => look,
         Begun::Target(may, next) => {
-            target_in(
-                size,
-                may,
-                next,
-                groups::group_at(words, setup, setup::ahead(size, at, 2)),
-            )
+            let group = source.group_at(setup, setup::ahead(setup.size, at, 2));
+            target_in(setup.size, may, next, group)
         }
         Begun::Coordinate(a, b, next) => {
-            coordinate_in(
-                a,
-                b,
-                next,
-                groups::group_at(words, setup, setup::ahead(size, at, 2)),
-            )
-        }
-    }
-}
-
-// One look at a place of an image.
-#[tactic(auto, unfolding(crate::specs::Look::look_of))]
-pub fn look_in(image: &[u8], setup: Setup, at: usize, mode: Mode) -> Look
-    ensures { result ≡ look_of (image_group image.now setup) setup at mode }
-{
-    let size = setup.size;
-    match first_by(setup, at, mode, groups::group_in(image, setup, at)) {
-        Begun::Done(look) => look,
-        Begun::Target(may, next) => {
-            target_in(
-                size,
-                may,
-                next,
-                groups::group_in(image, setup, setup::ahead(size, at, 2)),
-            )
-        }
-        Begun::Coordinate(a, b, next) => {
-            coordinate_in(
-                a,
-                b,
-                next,
-                groups::group_in(image, setup, setup::ahead(size, at, 2)),
-            )
+            let group = source.group_at(setup, setup::ahead(setup.size, at, 2));
+            coordinate_in(a, b, next, group)
         }
     }
 }

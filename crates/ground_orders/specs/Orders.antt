@@ -1,12 +1,10 @@
 -- The orders, one row each (01, "How to write each place"; 000 p.24, Table 4).
-use Rattle.std.specs.Prelude.{ℕ, cond, List, [], ◌∷◌, eqb}
+use Rattle.std.specs.Prelude.{ℕ, cond, List, [], ◌∷◌, eqb, None, Option, Some}
 use Rattle.ground_orders.specs.declared.Mode.TheVariants.{Point, Vector, IncrementalPoint, IncrementalVector, Basic, Large}
 use Rattle.ground_orders.specs.declared.PenMode.TheVariants.{Normal, Disabled, NoSwitch}
 use Rattle.ground_orders.specs.declared.Follows.{Follows}
 use Rattle.ground_orders.specs.declared.Follows.TheVariants.{Enter, Pass, End, Timer, SetPen, Transfer, NoDetect}
 use Rattle.ground_orders.specs.declared.Row.{Row}
-use Rattle.ground_orders.specs.declared.Found.{Found}
-use Rattle.ground_orders.specs.declared.Found.TheVariants.{Order, Missing}
 
 -- "The orders stand as one table of rows: code, length, what follows."
 abbrev pub row : ℕ → ℕ → Follows → Row
@@ -38,10 +36,10 @@ table =
     ∷ []
 
 -- the row of a list that has the code
-unfoldable pub find_in : List Row → ℕ → Found
-find_in [] code = Missing
-find_in (r ∷ rs) code = cond (eqb r.code code) (Order r) (find_in rs code)
+unfoldable pub find_in : List Row → ℕ → Option Row
+find_in [] code = None
+find_in (r ∷ rs) code = cond (eqb r.code code) (Some r) (find_in rs code)
 
 -- the row of the table that has the code
-unfoldable pub order_of : ℕ → Found
+unfoldable pub order_of : ℕ → Option Row
 order_of code = find_in table code

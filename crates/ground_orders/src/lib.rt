@@ -7,7 +7,7 @@ ghost use Rattle.std.specs.Prelude.{◌≡◌};
 ghost use Rattle.ground_orders.specs.Orders.{order_of};
 
 // What data mean where a step finds no order.
-#[derive(Clone, Copy)]
+#[derive(Clone, Copy, PartialEq, Eq)]
 pub enum Mode {
     Idle,
     Point,
@@ -19,7 +19,7 @@ pub enum Mode {
 }
 
 // When the light pen's detects count.
-#[derive(Clone, Copy)]
+#[derive(Clone, Copy, PartialEq, Eq)]
 pub enum PenMode {
     Normal,
     Disabled,
@@ -51,13 +51,6 @@ pub struct Row {
     pub code: u8,
     pub length: u8,
     pub follows: Follows,
-}
-
-// The row of a code, if there is one.
-#[derive(Clone, Copy)]
-pub enum Found {
-    Order(Row),
-    Missing,
 }
 
 // 000 p.24, Table 4, with the codes of its notes 4 and 5.
@@ -166,31 +159,32 @@ const TABLE: [Row; 20] = [
 
 // The row of the table that has the code.
 #[tactic(auto, unfolding(crate::specs::Orders::find_in, crate::specs::Orders::order_of, crate::specs::Orders::table))]
-pub fn order_of(code: u8) -> Found
+pub fn order_of(code: u8) -> Option<Row>
     ensures { result ≡ order_of code }
 {
+    // A match over the codes: a search over the rows was slower, and its proof did not close.
     let rows = TABLE;
     match code {
-        0x00 => Found::Order(rows[0]),
-        0x02 => Found::Order(rows[1]),
-        0x04 => Found::Order(rows[2]),
-        0x05 => Found::Order(rows[3]),
-        0x40 => Found::Order(rows[4]),
-        0x41 => Found::Order(rows[5]),
-        0x44 => Found::Order(rows[6]),
-        0x45 => Found::Order(rows[7]),
-        0x50 => Found::Order(rows[8]),
-        0x51 => Found::Order(rows[9]),
-        0x52 => Found::Order(rows[10]),
-        0x80 => Found::Order(rows[11]),
-        0x81 => Found::Order(rows[12]),
-        0x82 => Found::Order(rows[13]),
-        0x84 => Found::Order(rows[14]),
-        0x85 => Found::Order(rows[15]),
-        0x86 => Found::Order(rows[16]),
-        0xC0 => Found::Order(rows[17]),
-        0xFD => Found::Order(rows[18]),
-        0xFF => Found::Order(rows[19]),
-        _ => Found::Missing,
+        0x00 => Some(rows[0]),
+        0x02 => Some(rows[1]),
+        0x04 => Some(rows[2]),
+        0x05 => Some(rows[3]),
+        0x40 => Some(rows[4]),
+        0x41 => Some(rows[5]),
+        0x44 => Some(rows[6]),
+        0x45 => Some(rows[7]),
+        0x50 => Some(rows[8]),
+        0x51 => Some(rows[9]),
+        0x52 => Some(rows[10]),
+        0x80 => Some(rows[11]),
+        0x81 => Some(rows[12]),
+        0x82 => Some(rows[13]),
+        0x84 => Some(rows[14]),
+        0x85 => Some(rows[15]),
+        0x86 => Some(rows[16]),
+        0xC0 => Some(rows[17]),
+        0xFD => Some(rows[18]),
+        0xFF => Some(rows[19]),
+        _ => None,
     }
 }

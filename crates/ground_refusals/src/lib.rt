@@ -5,7 +5,7 @@ ghost use Rattle.std.specs.Prelude.{◌≡◌, ◌<◌};
 ghost use Rattle.ground_refusals.specs.Refusals.{refusal_number};
 
 // Why a call is refused.
-#[derive(Clone, Copy)]
+#[derive(Clone, Copy, PartialEq, Eq)]
 pub enum Refusal {
     // 1: the size is neither 4,096 nor 8,192.
     WrongSize,
@@ -32,20 +32,22 @@ pub enum Refusal {
 }
 
 // The number that 01 gives a refusal.
-pub fn refusal_number(refusal: Refusal) -> u8
-    ensures { (result ≡ refusal_number refusal) × (result < 14) }
-{
-    match refusal {
-        Refusal::WrongSize => 1,
-        Refusal::TooLong => 2,
-        Refusal::OddStart => 3,
-        Refusal::FarStart => 4,
-        Refusal::ShortStore => 5,
-        Refusal::CutOrShort => 6,
-        Refusal::UnknownKind => 7,
-        Refusal::UnknownSight => 8,
-        Refusal::UnusedBit => 9,
-        Refusal::WrongCount => 10,
-        Refusal::UnknownKey => 13,
+impl From<Refusal> for u8 {
+    ghost from_gives = { λ refusal n. (n ≡ refusal_number refusal) × (n < 14) };
+
+    fn from(refusal: Refusal) -> u8 {
+        match refusal {
+            Refusal::WrongSize => 1,
+            Refusal::TooLong => 2,
+            Refusal::OddStart => 3,
+            Refusal::FarStart => 4,
+            Refusal::ShortStore => 5,
+            Refusal::CutOrShort => 6,
+            Refusal::UnknownKind => 7,
+            Refusal::UnknownSight => 8,
+            Refusal::UnusedBit => 9,
+            Refusal::WrongCount => 10,
+            Refusal::UnknownKey => 13,
+        }
     }
 }

@@ -1,6 +1,7 @@
 -- What holds of every size, said once: of these laws `sane`, `sized-is` and `sized-number` go by cases on a size, and every proof above cites
 -- them.
 -- Assumes nothing.
+use Rattle.std.specs.Prelude.{Err, Ok}
 use Prim.Native.Nat.{ℕ, ◌+◌, ◌%◌, ◌<◌, ◌≤◌}
 use native.Mathlib.Omega.{arith}
 use native.Mathlib.Nat.{mod-lt, mod-mod, mod-eq_of_lt, mod-add-mod, mod-mod_of_dvd, dvd_of_mod-eq-zero}
@@ -11,7 +12,6 @@ use borrow.Author.Tests.{eqb-true}
 use Rattle.ground_refusals.specs.declared.Refusal.TheVariants.{WrongSize}
 use Rattle.ground_setup.specs.declared.Size.{Size}
 use Rattle.ground_setup.specs.declared.Size.TheVariants.{K4, K8}
-use Rattle.ground_setup.specs.declared.Sized.TheVariants as sized
 use Rattle.ground_setup.specs.Setup.{size_of, sized_of, Inside, wrap_of, ahead_of}
 
 -- what all else needs of a size
@@ -25,23 +25,23 @@ sane K4 = record { many = omega arith; few = omega arith; even = omega arith }
 sane K8 = record { many = omega arith; few = omega arith; even = omega arith }
 
 -- a size is what its number is taken for
-pub sized_is : (s : Size) → sized_of (size_of s) ≡ sized.Of s
+pub sized_is : (s : Size) → sized_of (size_of s) ≡ Ok s
 sized_is K4 = refl
 sized_is K8 = refl
 
 -- and a number that is taken for a size is its number
 sized_by : (n : ℕ) (s : Size) (t u : Bool) → eqb n (size_of K4) ≡ t → eqb n (size_of K8) ≡ u
-    → cond t (sized.Of K4) (cond u (sized.Of K8) (sized.Refused WrongSize)) ≡ sized.Of s → n ≡ size_of s
+    → cond t (Ok K4) (cond u (Ok K8) (Err WrongSize)) ≡ Ok s → n ≡ size_of s
 sized_by n s true u e f h = let same : K4 ≡ s = cc in eqb-true n (size_of K4) e ∙ ap size_of same
 sized_by n s false true e f h = let same : K8 ≡ s = cc in eqb-true n (size_of K8) f ∙ ap size_of same
 sized_by n s false false e f h = absurd (let z : ◌≡◌ {A = ℕ} 0 1 = cc in omega arith)
 
-pub sized_number : (n : ℕ) (s : Size) → sized_of n ≡ sized.Of s → n ≡ size_of s
+pub sized_number : (n : ℕ) (s : Size) → sized_of n ≡ Ok s → n ≡ size_of s
 sized_number n s h = sized_by n s (eqb n (size_of K4)) (eqb n (size_of K8)) refl refl h
 
 -- sizes of one number are one
 pub same_size : (s t : Size) → size_of s ≡ size_of t → s ≡ t
-same_size s t e = let same : sized.Of s ≡ sized.Of t = sym (sized_is s) ∙ ap sized_of e ∙ sized_is t in cc
+same_size s t e = let same : Ok s ≡ Ok t = sym (sized_is s) ∙ ap sized_of e ∙ sized_is t in cc
 
 module _ (s : Size) where
   pub positive : 0 < size_of s

@@ -1,11 +1,10 @@
 -- The sizes of a buffer, and addresses that go round in it (01, "What the unit is here" and "One step of regeneration").
-use Rattle.std.specs.Prelude.{ℕ, ◌+◌, ◌%◌, ◌<◌, cond, eqb}
+use Rattle.std.specs.Prelude.{ℕ, ◌+◌, ◌%◌, ◌<◌, cond, eqb, Err, Ok, Result}
+use Rattle.ground_refusals.specs.declared.Refusal.{Refusal}
 use Rattle.ground_refusals.specs.declared.Refusal.TheVariants.{WrongSize}
 use Rattle.ground_setup.specs.declared.Size.{Size}
 use Rattle.ground_setup.specs.declared.Size.TheVariants.{K4, K8}
 use Rattle.ground_setup.specs.declared.Setup.{Setup}
-use Rattle.ground_setup.specs.declared.Sized.{Sized}
-use Rattle.ground_setup.specs.declared.Sized.TheVariants as sized
 
 -- "buffer (4,096 or 8,192 locations)"
 abbrev pub size_of : Size → ℕ
@@ -13,8 +12,8 @@ size_of K4 = 4096
 size_of K8 = 8192
 
 -- "size is neither 4,096 nor 8,192" is refusal 1
-abbrev pub sized_of : ℕ → Sized
-sized_of n = cond (eqb n (size_of K4)) (sized.Of K4) (cond (eqb n (size_of K8)) (sized.Of K8) (sized.Refused WrongSize))
+abbrev pub sized_of : ℕ → Result Size Refusal
+sized_of n = cond (eqb n (size_of K4)) (Ok K4) (cond (eqb n (size_of K8)) (Ok K8) (Err WrongSize))
 
 abbrev pub setup : Size → Setup
 setup s = record { size = s }

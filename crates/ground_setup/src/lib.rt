@@ -3,13 +3,13 @@
 // The contracts cite `specs/Setup.antt`; `proofs/Laws.antt` has the laws of every size.
 #![tactic(auto)]
 
-ghost use Rattle.std.specs.Prelude.{◌≡◌, ◌≤◌};
+ghost use Rattle.std.specs.Prelude.{◌≡◌, ◌+◌, ◌*◌, ◌<◌, ◌≤◌};
 ghost use Rattle.ground_setup.specs.Setup.{size_of, sized_of, Inside, wrap_of, ahead_of};
 
 use ground_refusals::Refusal;
 
 // The locations of a buffer: 4,096 or 8,192.
-#[derive(Clone, Copy)]
+#[derive(Clone, Copy, PartialEq, Eq)]
 pub enum Size {
     K4,
     K8,
@@ -21,14 +21,8 @@ pub struct Setup {
     pub size: Size,
 }
 
-// A number taken as a size.
-#[derive(Clone, Copy)]
-pub enum Sized {
-    Of(Size),
-    Refused(Refusal),
-}
-
 // How many locations a buffer has.
+// No From: it counts locations, and is no number of a kind.
 pub fn size_of(size: Size) -> usize
     ensures { (result ≡ size_of size) × (0x1000 ≤ result) × (result ≤ 0x8000) }
 {
@@ -39,16 +33,18 @@ pub fn size_of(size: Size) -> usize
 }
 
 // The size of a number.
-pub fn size_from(number: usize) -> Sized
-    ensures { result ≡ sized_of number }
-{
-    if number == 4096 {
-        return Sized::Of(Size::K4);
+impl TryFrom<usize> for Size {
+    type Error = Refusal;
+
+    ghost try_from_gives = { λ number r. r ≡ sized_of number };
+
+    fn try_from(number: usize) -> Result<Size, Refusal> {
+        match number {
+            4096 => Ok(Size::K4),
+            8192 => Ok(Size::K8),
+            _ => Err(Refusal::WrongSize),
+        }
     }
-    if number == 8192 {
-        return Sized::Of(Size::K8);
-    }
-    Sized::Refused(Refusal::WrongSize)
 }
 
 // The address where the buffer goes round.
@@ -62,6 +58,12 @@ pub fn wrap(size: Size, address: usize) -> usize
 pub fn ahead(size: Size, at: usize, n: u8) -> usize
     ensures { (result ≡ ahead_of size at n) × Inside size result }
 {
-    let here = wrap(size, at);
-    wrap(size, here + n as usize)
+    wrap(size, wrap(size, at) + usize::from(n))
+}
+
+// The address of two bytes, high byte first.
+pub fn address_of(high: u8, low: u8) -> usize
+    ensures { (result ≡ high * 0x100 + low) × (result < 65536) }
+{
+    usize::from(u16::from_be_bytes([high, low]))
 }

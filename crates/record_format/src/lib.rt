@@ -4,11 +4,11 @@
 #![tactic(auto)]
 
 ghost use Rattle.std.specs.Prelude.{◌≡◌, ◌+◌, ◌*◌, ◌<◌, ◌≤◌};
-ghost use Rattle.record_format.specs.Records.{header_of, HeaderWithin, kind_row, cut_of, payload_of};
+ghost use Rattle.record_format.specs.Records.{header_of, HeaderWithin, kind_row, needed_in, cut_of, payload_of};
 
 use ground_refusals::Refusal;
 
-// What stands where a header was due.
+// What stands where a header was due. Three cases: an Option in a Result names neither the end nor the cut.
 #[derive(Clone, Copy)]
 pub enum Header {
     Record { length: usize, kind: usize },
@@ -16,18 +16,11 @@ pub enum Header {
     End,
 }
 
-// What a record's payload is.
+// Of an image: the size of its buffer, and where it starts.
 #[derive(Clone, Copy)]
-pub enum Payload {
-    Image { size: usize, start: usize },
-    Refused(Refusal),
-}
-
-// A row of the table of kinds: whether the kind is known, and how many bytes of its payload a record can need.
-#[derive(Clone, Copy)]
-pub struct Kind {
-    pub known: bool,
-    pub needed: usize,
+pub struct Image {
+    pub size: usize,
+    pub start: usize,
 }
 
 // Two bytes as a number, the low one first.
@@ -53,19 +46,13 @@ pub fn read_header(bytes: &[u8]) -> Header
     Header::Record { length, kind }
 }
 
-// The row of a kind.
-pub fn kind_row(kind: usize) -> Kind
-    ensures { (result ≡ kind_row kind) × (result.needed ≤ 0x8005) }
+// The row of a kind, which is any number of two bytes, in the table of kinds: how many bytes of its payload a record can need, where it is known.
+pub fn kind_row(kind: usize) -> Option<usize>
+    ensures { (result ≡ kind_row kind) × (needed_in kind ≤ 0x8005) }
 {
-    if kind == 1 {
-        return Kind {
-            known: true,
-            needed: 0x8005,
-        };
-    }
-    Kind {
-        known: false,
-        needed: 0,
+    match kind {
+        1 => Some(0x8005),
+        _ => None,
     }
 }
 
@@ -73,23 +60,24 @@ pub fn kind_row(kind: usize) -> Kind
 pub fn read_cut(kind: usize) -> Refusal
     ensures { result ≡ cut_of kind }
 {
-    if kind_row(kind).known {
-        return Refusal::CutOrShort;
+    match kind_row(kind) {
+        Some(_) => Refusal::CutOrShort,
+        None => Refusal::UnknownKind,
     }
-    Refusal::UnknownKind
 }
 
 // What a whole payload of this kind is. Its start is enough: what stands behind size and start is not looked at.
-pub fn read_payload(kind: usize, payload: &[u8]) -> Payload
+pub fn read_payload(kind: usize, payload: &[u8]) -> Result<Image, Refusal>
     ensures { result ≡ payload_of kind payload.now }
 {
     if kind != 1 {
-        return Payload::Refused(Refusal::UnknownKind);
+        return Err(Refusal::UnknownKind);
     }
     if payload.len() < 4 {
-        return Payload::Refused(Refusal::CutOrShort);
+        return Err(Refusal::CutOrShort);
     }
-    let size = two(payload[0], payload[1]);
-    let start = two(payload[2], payload[3]);
-    Payload::Image { size, start }
+    Ok(Image {
+        size: two(payload[0], payload[1]),
+        start: two(payload[2], payload[3]),
+    })
 }

@@ -9,8 +9,9 @@ use borrow.Author.Tests.{lt-ltb, le-ltb}
 use lib.ListN.{length, take, drop, replicate, length-take, length-append, length-replicate, take-append-drop}
 use lib.Seq.{take_all, take-take, take-append-le, take-append-add, length-take-le}
 use lib.Dec.{eqb, ltb}
-use Rattle.record_format.specs.Records.{length_in, kind_in, extent_of, header_of, HeaderWithin, kind_row}
-use Rattle.record_format.specs.declared.Kind.{Kind}
+use Rattle.record_format.specs.Records.{length_in, kind_in, extent_of, header_of, HeaderWithin, needed_in}
+use Rattle.std.specs.Prelude.{Option, Some, None}
+use Rattle.std.specs.Option.{unwrap_or}
 use Rattle.record_format.specs.declared.Header.{Header}
 use Rattle.record_format.specs.declared.Header.TheVariants.{Record, Cut, End}
 use Rattle.record_format.proofs.First.{length_first, kind_first, length_take_six, header_first, header_whole, header_is}
@@ -23,7 +24,7 @@ pub need_head : (s : List ℕ) → length s < 6 → needed_of s ≡ 6
 unfolding needed_of
 need_head s h = simp (lt-ltb (length s) 6 h)
 
-pub need_rest : (s : List ℕ) → 6 ≤ length s → needed_of s ≡ 6 + min (length_in s) (kind_row (kind_in s)).needed
+pub need_rest : (s : List ℕ) → 6 ≤ length s → needed_of s ≡ 6 + min (length_in s) (needed_in (kind_in s))
 unfolding needed_of
 need_rest s h = simp (le-ltb (length s) 6 h)
 
@@ -41,17 +42,16 @@ extent_first a r six = ap (λ (n : ℕ). 6 + n) (length_first a r six)
 pub need_first : (a r : List ℕ) → 6 ≤ length a → needed_of (a ++ r) ≡ needed_of a
 need_first a r six =
     need_rest (a ++ r) (omega (arith, length-append a r))
-    ∙ ap (λ (n : ℕ). 6 + min n (kind_row (kind_in (a ++ r))).needed) (length_first a r six)
-    ∙ ap (λ (k : ℕ). 6 + min (length_in a) (kind_row k).needed) (kind_first a r six)
+    ∙ ap (λ (n : ℕ). 6 + min n (needed_in (kind_in (a ++ r)))) (length_first a r six)
+    ∙ ap (λ (k : ℕ). 6 + min (length_in a) (needed_in k)) (kind_first a r six)
     ∙ sym (need_rest a six)
 
-row_most : (t : Bool) (a b : Kind) → a.needed ≤ 32773 → b.needed ≤ 32773 → (cond t a b).needed ≤ 32773
-row_most true a b p q = p
-row_most false a b p q = q
+row_most : (t : Bool) → unwrap_or (cond {A = Option ℕ} t (Some 0x8005) None) 0 ≤ 32773
+row_most true = omega arith
+row_most false = omega arith
 
-kind_most : (kind : ℕ) → (kind_row kind).needed ≤ 32773
-kind_most kind =
-    row_most (eqb kind 1) (record { known = true; needed = 0x8005 }) (record { known = false; needed = 0 }) (omega arith) (omega arith)
+kind_most : (kind : ℕ) → needed_in kind ≤ 32773
+kind_most kind = row_most (eqb kind 1)
 
 pub need_most : (s : List ℕ) → needed_of s ≤ 32779
 need_most s =
@@ -158,7 +158,7 @@ pub record Headed (had some n kind count : ℕ) (kept kept₁ kept₂ piece : Li
   pub sum : some ≡ had + length piece
   pub put : kept₁ ≡ put_at kept had (take (6 - had) piece)
   pub head : Record n kind ≡ header_of (take (min some 6) kept₁)
-  pub need : count ≡ 6 + min n (kind_row kind).needed
+  pub need : count ≡ 6 + min n (needed_in kind)
   pub size : length kept₁ ≡ length kept
   pub again : kept₂ ≡ put_at kept₁ had (take (count - had) piece)
 
@@ -173,8 +173,8 @@ module _ (had some n kind count : ℕ) (kept kept₁ kept₂ piece : List ℕ) (
   counted : count ≡ needed_of (s ++ piece)
   counted =
       x.need
-      ∙ ap (λ (m : ℕ). 6 + min m (kind_row kind).needed) told.1
-      ∙ ap (λ (k : ℕ). 6 + min (length_in (s ++ piece)) (kind_row k).needed) told.2
+      ∙ ap (λ (m : ℕ). 6 + min m (needed_in kind)) told.1
+      ∙ ap (λ (k : ℕ). 6 + min (length_in (s ++ piece)) (needed_in k)) told.2
       ∙ sym (need_rest (s ++ piece) told.0)
 
   both : length (s ++ piece) ≡ some

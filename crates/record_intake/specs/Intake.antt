@@ -1,15 +1,15 @@
 -- Records that come in pieces: what is kept of the one that is open, and what is found when a piece is taken in.
 use Rattle.std.specs.Prelude.{ℕ, ◌+◌, ◌≤◌, ◌<◌, min, ◌≡◌, cond, List, ◌++◌, length, take, ltb}
-use Rattle.record_format.specs.Records.{length_in, kind_in, extent_of, header_of, kind_row}
+use Rattle.record_format.specs.Records.{length_in, kind_in, extent_of, header_of, needed_in}
 use Rattle.record_format.specs.declared.Header.{Header}
 use Rattle.record_format.specs.declared.Header.TheVariants.{Record, Cut, End}
-use Rattle.record_intake.specs.declared.Entry.{Entry}
-use Rattle.record_intake.specs.declared.Entry.TheVariants.{Whole, Open}
+use Rattle.text_pieces.specs.declared.Found.{Found}
+use Rattle.text_pieces.specs.declared.Found.TheVariants.{Whole, Open}
 
 -- how many of a record's first bytes can be needed, by those that are there: its header, then what the table of kinds says of its
 -- payload
 unfoldable pub needed_of : List ℕ → ℕ
-needed_of s = cond (ltb (length s) 6) 6 (6 + min (length_in s) (kind_row (kind_in s)).needed)
+needed_of s = cond (ltb (length s) 6) 6 (6 + min (length_in s) (needed_in (kind_in s)))
 
 -- A RECORD THAT IS OPEN: `s` are its bytes so far, fewer than it has; `seen` is their number, and those that can be needed are kept
 pub record OpenRecord (seen : ℕ) (kept s : List ℕ) : Type 0 where
@@ -38,16 +38,16 @@ pub record WholeRecord (s piece first : List ℕ) (used : ℕ) : Type 0 where
 
 -- what is found when a piece is taken in behind the bytes of an open record: a whole record, at the front of the piece or of what is
 -- kept; or it is open still
-abbrev pub FoundIn : List ℕ → List ℕ → List ℕ → Entry → Type 0
+abbrev pub FoundIn : List ℕ → List ℕ → List ℕ → Found → Type 0
 FoundIn s piece kept (Whole direct count used) = WholeRecord s piece (take count (cond direct piece kept)) used
 FoundIn s piece kept (Open seen) = OpenRecord (open_at seen kept) kept (s ++ piece)
 
 -- behind a whole record none is open
-abbrev pub open_of : Entry → ℕ
+abbrev pub open_of : Found → ℕ
 open_of (Whole direct count used) = 0
 open_of (Open seen) = seen
 
 -- a record takes a byte of the piece at least, and its header is among the bytes that tell it
-abbrev pub UsedIn : List ℕ → List ℕ → Entry → Type 0
+abbrev pub UsedIn : List ℕ → List ℕ → Found → Type 0
 UsedIn piece kept (Whole direct count used) = (0 < used) × (used ≤ length piece) × (6 ≤ length (take count (cond direct piece kept)))
 UsedIn piece kept (Open seen) = Unit {0}

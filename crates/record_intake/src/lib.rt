@@ -3,48 +3,21 @@
 // The contracts cite `specs/Intake.antt`.
 #![tactic(auto)]
 
-ghost use Rattle.std.specs.Prelude.{◌≡◌, List, ℕ, ◌+◌, ◌-◌, ◌≤◌, ◌<◌, min, length, take};
+ghost use Rattle.std.specs.Prelude.{◌≡◌, List, ℕ, ◌+◌, ◌-◌, ◌≤◌, ◌<◌, min, length, take, IfSome};
 ghost use Rattle.text_put.specs.Text.{put_at};
-ghost use Rattle.record_format.specs.Records.{extent_of, header_of, HeaderWithin, kind_row};
+ghost use Rattle.record_format.specs.Records.{extent_of, header_of, HeaderWithin, needed_in};
 ghost use Rattle.record_intake.specs.Intake.{OpenRecord, open_at, open_of, FoundIn, UsedIn};
 
 use record_format as records;
 use record_format::Header;
 use text_parts as parts;
+use text_pieces::Found;
 use text_put as text;
 
 // How many bytes of a record can be needed: its header, and the most that any kind needs of its payload.
 pub const KEPT: usize = 32779;
 
-// What is found when a piece is taken in.
-#[derive(Clone, Copy)]
-pub enum Entry {
-    // A whole record, for which so many bytes of the piece were used; its first bytes stand at the front of the piece, or of
-    // what is kept.
-    Whole {
-        direct: bool,
-        count: usize,
-        used: usize,
-    },
-    // A record of which so many bytes have come, and more are to come.
-    Open(usize),
-}
-
-// The smaller of two numbers.
-fn least(a: usize, b: usize) -> usize
-    ensures { result ≡ min a b }
-{
-    if a < b { a } else { b }
-}
-
-// How much one number is above another.
-fn above(a: usize, b: usize) -> usize
-    ensures { result ≡ a - b }
-{
-    if b < a { a - b } else { 0 }
-}
-
-// How many bytes have come of the record that is open, of which the first are kept.
+// How many bytes have come of the record that is open, of which the first are kept. A count, as `open_at` of specs is: 0 where none is open.
 pub fn open_at(seen: usize, kept: &[u8]) -> usize
     ensures { (result ≡ open_at seen kept.now) × (result < 4294967302) }
 {
@@ -55,38 +28,37 @@ pub fn open_at(seen: usize, kept: &[u8]) -> usize
 }
 
 // How many bytes have come of the record that is open behind what was found: none where it is whole.
-pub fn open_of(entry: Entry) -> usize
-    ensures { result ≡ open_of entry }
+pub fn open_of(found: Found) -> usize
+    ensures { result ≡ open_of found }
 {
-    match entry {
-        Entry::Whole {
+    match found {
+        Found::Whole {
             direct: _,
             count: _,
             used: _,
         } => 0,
-        Entry::Open(seen) => seen,
+        Found::Open(seen) => seen,
     }
 }
 
-// How many bytes the record at the front of a piece has, where all of it is there; else 0.
-fn whole(piece: &[u8]) -> usize
-    ensures { 0 < result → (6 ≤ length piece.now) × (result ≡ extent_of piece.now) × (result ≤ length piece.now) }
+// How many bytes the record at the front of a piece has, where all of it is there.
+fn whole(piece: &[u8]) -> Option<usize>
+    ensures { IfSome result (λ n. (6 ≤ length piece.now) × (n ≡ extent_of piece.now) × (n ≤ length piece.now)) }
 {
     let Header::Record { length, kind: _ } = records::read_header(piece) else {
-        return 0;
+        return None;
     };
     if piece.len() < 6 + length {
-        0
-    } else {
-        6 + length
+        return None;
     }
+    Some(6 + length)
 }
 
 // Keeps the bytes of a piece that fall among the first `most` of a record, `had` of which came before.
 fn keep(kept: &mut [u8], had: usize, most: usize, piece: &[u8])
     ensures { kept.new ≡ put_at kept.old had (take (most - had) piece.now) }
 {
-    text::put(kept, had, parts::first(piece, above(most, had)));
+    text::put(kept, had, parts::first(piece, most.saturating_sub(had)));
 }
 
 // The header of a record, `had` bytes of which came before the piece.
@@ -95,32 +67,32 @@ fn head(kept: &mut [u8], had: usize, piece: &[u8], some: usize) -> Header
     ensures value { (result ≡ header_of (take (min some 6) kept.new)) × HeaderWithin result }
 {
     keep(kept, had, 6, piece);
-    records::read_header(parts::first(kept, least(some, 6)))
+    records::read_header(parts::first(kept, some.min(6)))
 }
 
 // How many bytes of a record of this length and kind can be needed.
 fn needed(length: usize, kind: usize) -> usize
-    ensures { (result ≡ 6 + min length (kind_row kind).needed) × (result ≤ 32779) }
+    ensures { (result ≡ 6 + min length (needed_in kind)) × (result ≤ 32779) }
 {
-    6 + least(length, records::kind_row(kind).needed)
+    6 + length.min(records::kind_row(kind).unwrap_or(0))
 }
 
 // Takes in a piece of a record of which `had` bytes came before.
-fn gather(had: usize, kept: &mut [u8], piece: &[u8]) -> Entry
+fn gather(had: usize, kept: &mut [u8], piece: &[u8]) -> Found
     requires { (32779 ≤ length kept.old) × (had < extent_of kept.old) × (had < 4294967302) }
     ensures by_index { (s : List ℕ) → OpenRecord had kept.old s → FoundIn s piece.now kept.new result }
     ensures used_in { UsedIn piece.now kept.new result }
 {
     let some = had + piece.len();
     let Header::Record { length, kind } = head(kept, had, piece, some) else {
-        return Entry::Open(some);
+        return Found::Open(some);
     };
     let count = needed(length, kind);
     keep(kept, had, count, piece);
     if some < 6 + length {
-        return Entry::Open(some);
+        return Found::Open(some);
     }
-    Entry::Whole {
+    Found::Whole {
         direct: false,
         count,
         used: 6 + length - had,
@@ -128,29 +100,19 @@ fn gather(had: usize, kept: &mut [u8], piece: &[u8]) -> Entry
 }
 
 // Takes in a piece until a record is whole. `seen` bytes of the record that is open have come, the first of them are kept.
-fn next_in(seen: usize, kept: &mut [u8], piece: &[u8]) -> Entry
-    requires { 32779 ≤ length kept.old }
+pub fn next(seen: usize, kept: &mut [u8; KEPT], piece: &[u8]) -> Found
     ensures by_index { (s : List ℕ) → OpenRecord (open_at seen kept.old) kept.old s → FoundIn s piece.now kept.new result }
     ensures used_in { UsedIn piece.now kept.new result }
 {
     let had = open_at(seen, kept);
-    if had == 0 {
-        let size = whole(piece);
-        if size > 0 {
-            return Entry::Whole {
-                direct: true,
-                count: size,
-                used: size,
-            };
-        }
+    if had == 0
+        && let Some(size) = whole(piece)
+    {
+        return Found::Whole {
+            direct: true,
+            count: size,
+            used: size,
+        };
     }
     gather(had, kept, piece)
-}
-
-// Takes in a piece until a record is whole. `seen` bytes of the record that is open have come, the first of them are kept.
-pub fn next(seen: usize, kept: &mut [u8; KEPT], piece: &[u8]) -> Entry
-    ensures by_index { (s : List ℕ) → OpenRecord (open_at seen kept.old) kept.old s → FoundIn s piece.now kept.new result }
-    ensures used_in { UsedIn piece.now kept.new result }
-{
-    next_in(seen, kept, piece)
 }

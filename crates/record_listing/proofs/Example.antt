@@ -10,6 +10,7 @@ use Rattle.record_format.specs.Records.{length_in, kind_in}
 use Rattle.record_intake.specs.Printed.{nothing, listed}
 use Rattle.record_lines.specs.Lines.{fault_line, refused_line}
 use Rattle.record_answer.specs.Answer.{RecordLine}
+use Rattle.ground_look.specs.declared.Fault.TheVariants.{Unwritten}
 use Rattle.validator_store.specs.Layout.{room_of}
 use Rattle.validator_verdict.specs.Verdict.{VerdictValues, Tried, tried_of, Judged}
 use Rattle.validator_walks.proofs.Worked.{all_right}
@@ -42,7 +43,7 @@ first_line_lem =
           size,
           (
             VerdictValues.fault 1 6 3,
-            subst (λ (t : Tried). Judged t (0 ∷ 0 ∷ 0 ∷ 0 ∷ 0 ∷ 0 ∷ []) 0 store left (VerdictValues.fault 1 6 3)) (sym tried) (all_right.1.0, refl),
+            subst (λ (t : Tried). Judged t (0 ∷ 0 ∷ 0 ∷ 0 ∷ 0 ∷ 0 ∷ []) 0 store left (VerdictValues.fault 1 6 3)) (sym tried) ((Unwritten, refl, all_right.1.0), refl),
             refl,
           ),
         ),

@@ -16,16 +16,16 @@ use Rattle.record_answer.specs.Answer.{RecordLine, LineAnswered}
 use Rattle.record_answer.proofs.Laws.{answer_first, line_short, store_left}
 use Rattle.record_listing.specs.Listing.{Feeds, StoreLeft}
 use Rattle.record_listing.specs.declared.ListingAt.{ListingAt}
-use Rattle.record_listing.specs.declared.Fed.{Fed}
+use Rattle.text_pieces.specs.declared.Fed.{Fed}
 
 abbrev pub state : ℕ → ℕ → ListingAt
 state number seen = record { number = number; seen = seen }
 
-abbrev pub fed : ListingAt → ℕ → ℕ → Fed
-fed l used end = record { listing = l; used = used; end = end }
+abbrev pub fed : ℕ → ℕ → Fed
+fed used end = record { used = used; end = end }
 
 -- nothing was taken in
-pub feeds_none : (l : ListingAt) (kept piece out : List ℕ) → Feeds l kept piece out 0 (fed l 0 0) kept out
+pub feeds_none : (l : ListingAt) (kept piece out : List ℕ) → Feeds l kept piece out 0 (fed 0 0) l kept out
 feeds_none l kept piece out =
     record {
       text = [];
@@ -40,7 +40,7 @@ feeds_none l kept piece out =
 -- a record is open still
 pub feeds_open : (l : ListingAt) (at seen : ℕ) (kept kept' piece out : List ℕ) → at ≤ length out
     → ((s : List ℕ) → OpenRecord (open_at l.seen kept) kept s → OpenRecord (open_at seen kept') kept' (s ++ piece))
-    → Feeds l kept piece out at (fed (state l.number seen) (length piece) at) kept' out
+    → Feeds l kept piece out at (fed (length piece) at) (state l.number seen) kept' out
 feeds_open l at seen kept kept' piece out room found =
     record {
       text = [];
@@ -67,7 +67,7 @@ pub feeds_line : (l : ListingAt) (at used end : ℕ) (kept kept' piece first out
     → used ≤ length piece
     → LineAnswered (payload_of (kind_in first) (drop 6 first)) (drop 10 first) l.number store store' out at out' end
     → ((s : List ℕ) → OpenRecord (open_at l.seen kept) kept s → WholeRecord s piece first used)
-    → Feeds l kept piece out at (fed (state (l.number + 1) 0) used end) kept' out'
+    → Feeds l kept piece out at (fed used end) (state (l.number + 1) 0) kept' out'
 feeds_line l at used end kept kept' piece first out out' store store' room size some within a found =
     let short = line_short (payload_of (kind_in first) (drop 6 first)) (drop 10 first) l.number store store' a.line a.right in
     let put = put_whole out at a.line end out' (omega arith) (a.ends, a.stands) in
@@ -92,11 +92,11 @@ feeds_line l at used end kept kept' piece first out out' store store' room size 
 
 -- a step and then another
 pub feeds_on : (l l₁ l₂ : ListingAt) (at used end more last : ℕ) (kept kept₁ kept₂ piece rest out out₁ out₂ : List ℕ)
-    → Feeds l kept piece out at (fed l₁ used end) kept₁ out₁
+    → Feeds l kept piece out at (fed used end) l₁ kept₁ out₁
     → rest ≡ drop used piece
     → length out₁ ≡ length out
-    → Feeds l₁ kept₁ rest out₁ end (fed l₂ more last) kept₂ out₂
-    → Feeds l kept piece out at (fed l₂ (used + more) last) kept₂ out₂
+    → Feeds l₁ kept₁ rest out₁ end (fed more last) l₂ kept₂ out₂
+    → Feeds l kept piece out at (fed (used + more) last) l₂ kept₂ out₂
 feeds_on l l₁ l₂ at used end more last kept kept₁ kept₂ piece rest out out₁ out₂ p e size q =
     let count : length rest ≡ length piece - used = ap length e ∙ length-drop used piece in
     let far : end + (last - end) ≡ last = omega (arith, q.ends) in

@@ -20,7 +20,7 @@ use Rattle.record_answer.proofs.Laws.{one_line}
 use Rattle.record_listing.specs.Listing.{PrintedFor, last_line, Feeds}
 use Rattle.record_listing.specs.Pieces.{bytes_of, Calls, done, empty, fed, Standing, closing_of}
 use Rattle.record_listing.specs.declared.ListingAt.{ListingAt}
-use Rattle.record_listing.specs.declared.Fed.{Fed}
+use Rattle.text_pieces.specs.declared.Fed.{Fed}
 use Rattle.record_listing.proofs.Laws.{state}
 
 -- the header of an open record is among what is kept of it
@@ -78,17 +78,17 @@ standing_more n s input piece text kept l x =
           subst (λ (i : List ℕ). Printed RecordLine n (s ++ i) (text ++ t)) (sym (append_assoc input piece r)) (x.told (piece ++ r) t p);
     }
 
-pub standing_fed : (n : ℕ) (s input rest text kept kept' out out' : List ℕ) (l : ListingAt) (f : Fed) → Standing n s input rest text l kept
-    → Feeds l kept rest out 0 f kept' out'
-    → Standing n s input (drop f.used rest) (text ++ take f.end out') f.listing kept'
-standing_fed n s input rest text kept kept' out out' l f x feeds =
+pub standing_fed : (n : ℕ) (s input rest text kept kept' out out' : List ℕ) (l l' : ListingAt) (f : Fed) → Standing n s input rest text l kept
+    → Feeds l kept rest out 0 f l' kept' out'
+    → Standing n s input (drop f.used rest) (text ++ take f.end out') l' kept'
+standing_fed n s input rest text kept kept' out out' l l' f x feeds =
     let y = feeds.comes x.bytes x.opened in
     record {
       bytes = y.bytes;
       opened = y.opened;
       told =
-          subst (λ (t : List ℕ). Told RecordLine n s input (text ++ t) f.listing.number y.bytes (drop f.used rest)) (sym feeds.put)
-          (told_on RecordLine n l.number f.listing.number s x.bytes y.bytes input rest (drop f.used rest) text feeds.text
+          subst (λ (t : List ℕ). Told RecordLine n s input (text ++ t) l'.number y.bytes (drop f.used rest)) (sym feeds.put)
+          (told_on RecordLine n l.number l'.number s x.bytes y.bytes input rest (drop f.used rest) text feeds.text
           x.told y.told);
     }
 
@@ -104,7 +104,7 @@ standing_calls : {l l' : ListingAt} {kept kept' text : List ℕ} {pieces : List 
     → Standing l.number s (bytes_of pieces) [] text l' kept'
 standing_calls (done _ _) s o = record { bytes = s; opened = o; told = λ r t p. p }
 standing_calls (empty l l' kept kept' text pieces rest) s o = standing_calls rest s o
-standing_calls (fed l l' kept kept₁ kept' piece out out₁ text pieces f feeds rest) s o =
+standing_calls (fed l l₁ l' kept kept₁ kept' piece out out₁ text pieces f feeds rest) s o =
     let x = feeds.comes s o in
     let y = standing_calls rest x.bytes x.opened in
     record {
@@ -112,7 +112,7 @@ standing_calls (fed l l' kept kept₁ kept' piece out out₁ text pieces f feeds
       opened = y.opened;
       told =
           subst (λ (t : List ℕ). Told RecordLine l.number s (piece ++ bytes_of pieces) (t ++ text) l'.number y.bytes []) (sym feeds.put)
-          (told_joined RecordLine l.number f.listing.number l'.number s x.bytes y.bytes piece (bytes_of pieces)
+          (told_joined RecordLine l.number l₁.number l'.number s x.bytes y.bytes piece (bytes_of pieces)
           (drop f.used piece) feeds.text text x.told y.told);
     }
 

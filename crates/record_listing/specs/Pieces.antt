@@ -6,7 +6,7 @@ use Rattle.record_intake.specs.Printed.{Told}
 use Rattle.record_answer.specs.Answer.{RecordLine}
 use Rattle.record_listing.specs.Listing.{last_line, Feeds}
 use Rattle.record_listing.specs.declared.ListingAt.{ListingAt}
-use Rattle.record_listing.specs.declared.Fed.{Fed}
+use Rattle.text_pieces.specs.declared.Fed.{Fed}
 
 -- all bytes of some pieces
 abbrev pub bytes_of : List (List ℕ) → List ℕ
@@ -19,9 +19,9 @@ pub data Calls : ListingAt → List ℕ → List (List ℕ) → List ℕ → Lis
   done : (l : ListingAt) (kept : List ℕ) → Calls l kept [] [] l kept
   empty : (l l' : ListingAt) (kept kept' text : List ℕ) (pieces : List (List ℕ)) → Calls l kept pieces text l' kept'
       → Calls l kept ([] ∷ pieces) text l' kept'
-  fed : (l l' : ListingAt) (kept kept₁ kept' piece out out₁ text : List ℕ) (pieces : List (List ℕ)) (f : Fed)
-      → Feeds l kept piece out 0 f kept₁ out₁
-      → Calls f.listing kept₁ (drop f.used piece ∷ pieces) text l' kept'
+  fed : (l l₁ l' : ListingAt) (kept kept₁ kept' piece out out₁ text : List ℕ) (pieces : List (List ℕ)) (f : Fed)
+      → Feeds l kept piece out 0 f l₁ kept₁ out₁
+      → Calls l₁ kept₁ (drop f.used piece ∷ pieces) text l' kept'
       → Calls l kept (piece ∷ pieces) (take f.end out₁ ++ text) l' kept'
 
 -- WHERE A LISTING STANDS once an input was taken in up to its rest, and a text given out, from a number and the bytes of an open record on:

@@ -10,7 +10,7 @@ use borrow.Author.Tests.{ne_eqb, le-ltb}
 use lib.ListN.{length, drop}
 use Rattle.record_format.specs.Records.{header_of, payload_of, length_in, kind_in, le16}
 use Rattle.record_format.specs.declared.Header.TheVariants.{Record}
-use Rattle.record_format.specs.declared.Payload.TheVariants.{Image}
+use Rattle.std.specs.Prelude.{Ok}
 use Rattle.record_make.specs.Making.{record_of}
 
 module _ (image : List ℕ) (size start : ℕ) (short : length image < 65536) (s : size < 65536) (t : start < 65536) where
@@ -25,7 +25,7 @@ module _ (image : List ℕ) (size start : ℕ) (short : length image < 65536) (s
       let six : ltb (length made) 6 ≡ false = le-ltb (length made) 6 (omega arith) in
       simp (some, six, n)
 
-  pub made_payload : payload_of 1 (drop 6 (record_of image size start)) ≡ Image size start
+  pub made_payload : payload_of 1 (drop 6 (record_of image size start)) ≡ Ok (record { size = size; start = start })
   unfolding made
   made_payload =
       let a : le16 made 6 ≡ size = omega arith in

@@ -1,19 +1,20 @@
--- A text of digits, looked through from the left: what is left of it gives the whole answer.
-use Prim.Native.Nat.{ℕ, ◌+◌, ◌<◌}
+-- What stands behind the end of a text of digits.
+use Prim.Native.Nat.{ℕ, ◌+◌, ◌≤◌}
 use mathlib.Core.Path.{◌≡◌}
-use mathlib.Core.Bool.{true, false}
 use mathlib.Core.List.{List}
-use native.Mathlib.Numerals.{add-one}
-use lib.ListN.{length, get_or, drop}
-use lib.Seq.{drop-cons}
-use lib.Dec.{ltb}
-use Rattle.text_digits.specs.Digits.{hex_value, all_below}
+use native.Mathlib.Omega.{arith}
+use lib.ListN.{length, get_or-eq_default}
+use Rattle.text_digits.specs.Digits.{digit_at, hex_byte_at, hex_word_at}
 
-module _ (base : ℕ) (text : List ℕ) (i : ℕ) (more : i < length text) where
-  pub no_digit : ltb (hex_value (get_or text i 0)) base ≡ false → all_below base (drop i text) ≡ false
-  unfolding all_below
-  no_digit e = rw (drop-cons text i 0, e)
+-- behind its end a text has no digits
+pub no_digit : (text : List ℕ) (at : ℕ) → length text ≤ at → digit_at text at ≡ 16
+unfolding digit_at
+no_digit text at h = rw (get_or-eq_default text 0 {n = at} h)
 
-  pub one_digit : ltb (hex_value (get_or text i 0)) base ≡ true → all_below base (drop i text) ≡ all_below base (drop (i + 1) text)
-  unfolding all_below
-  one_digit e = rw (add-one, drop-cons text i 0, e)
+pub no_byte : (text : List ℕ) (at : ℕ) → length text ≤ at → hex_byte_at text at ≡ 16
+unfolding hex_byte_at
+no_byte text at h = rw (no_digit text at h, no_digit text (at + 1) (omega arith))
+
+pub no_word : (text : List ℕ) (at : ℕ) → length text ≤ at → hex_word_at text at ≡ 4112
+unfolding hex_word_at
+no_word text at h = rw (no_byte text at h, no_byte text (at + 2) (omega arith))

@@ -1,5 +1,6 @@
 -- Digits: numbers in capital hexadecimal, without separators.
-use Rattle.std.specs.Prelude.{ℕ, ◌+◌, ◌*◌, ◌-◌, ◌%◌, Bool, true, false, cond, ◌&&◌, List, [], ◌∷◌, get_or, ltb, leb}
+use Rattle.std.specs.Prelude.{ℕ, ◌+◌, ◌*◌, ◌-◌, ◌%◌, Bool, cond, ◌&&◌, List, get_or, ltb, leb}
+use Rattle.std.specs.List.{list_all}
 
 -- a digit's value, capital letters from ten on; 16 is none
 abbrev pub hex_value : ℕ → ℕ
@@ -8,8 +9,7 @@ hex_value byte =
 
 -- digits of a base, ten or sixteen
 unfoldable pub all_below : ℕ → List ℕ → Bool
-all_below base [] = true
-all_below base (byte ∷ rest) = cond (ltb (hex_value byte) base) (all_below base rest) false
+all_below base text = list_all (λ byte. ltb (hex_value byte) base) text
 
 -- the value of the digit at a place, the byte that two digits are, and the word that four are
 unfoldable pub digit_at : List ℕ → ℕ → ℕ

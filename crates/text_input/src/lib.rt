@@ -8,7 +8,7 @@ ghost use Rattle.text_input.specs.Input.{CameWithin};
 
 use std::io::{Read, Stdin};
 
-// What a read came to.
+// What a read came to. Three cases: an Option in a Result names neither the end nor the failure.
 #[derive(Clone, Copy)]
 pub enum Came {
     // So many bytes, which stand at the front of the buffer.
@@ -23,11 +23,9 @@ pub enum Came {
 pub fn read(mut stdin: Stdin, buffer: &mut [u8]) -> Came
     ensures { CameWithin (length buffer.old) result }
 {
-    let Ok(count) = stdin.read(buffer) else {
-        return Came::Failed;
-    };
-    if count == 0 {
-        return Came::End;
+    match stdin.read(buffer) {
+        Ok(0) => Came::End,
+        Ok(count) => Came::Bytes(count),
+        Err(_) => Came::Failed,
     }
-    Came::Bytes(count)
 }

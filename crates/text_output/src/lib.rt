@@ -3,7 +3,7 @@
 // The contracts cite `specs/Output.antt`.
 #![tactic(auto)]
 
-ghost use Rattle.std.specs.Prelude.{◌≡◌, length};
+ghost use Rattle.std.specs.Prelude.{◌≡◌, length, true};
 ghost use Rattle.text_output.specs.Output.{Handed};
 
 use text_parts as parts;
@@ -20,24 +20,31 @@ pub struct Output {
     pub open: bool,
 }
 
-// Writes the first n bytes of the buffer. Once a write has failed nothing more is written.
-pub fn write(output: Output, buffer: &[u8], n: usize) -> Output
-    ensures { Handed output (length buffer.now) n result }
-{
-    if !output.open {
-        return output;
+impl Output {
+    // Nothing was handed over yet, and whoever reads is there.
+    pub fn fresh() -> Output
+        ensures { result ≡ record { written = 0; «open» = true } }
+    {
+        Output {
+            written: 0,
+            open: true,
+        }
     }
-    let text = parts::first(buffer, n);
-    if usize::MAX - output.written < text.len() {
-        return Output {
-            written: output.written,
-            open: false,
+
+    // Writes the first n bytes of the buffer. Once a write has failed nothing more is written.
+    pub fn write(&mut self, buffer: &[u8], n: usize)
+        ensures { Handed self.old (length buffer.now) n self.new }
+    {
+        if !self.open {
+            return;
+        }
+        let text = parts::first(buffer, n);
+        let Some(written) = self.written.checked_add(text.len()) else {
+            self.open = false;
+            return;
         };
-    }
-    let taken = io::write_all(STDOUT_FILENO, text);
-    Output {
-        written: output.written + text.len(),
-        open: taken,
+        self.open = io::write_all(STDOUT_FILENO, text);
+        self.written = written;
     }
 }
 

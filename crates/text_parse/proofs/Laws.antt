@@ -11,7 +11,7 @@ use lib.Seq.{drop-cons}
 use lib.Dec.{leb}
 use borrow.Author.Tests.{leb-true}
 use Rattle.text_parse.specs.Parse.{digit, number_from}
-use Rattle.text_parse.specs.declared.Parsed.TheVariants.{Wrong}
+use Rattle.std.proofs.Common.{None}
 
 both : (x y : Bool) → (x && y) ≡ true → (x ≡ true) × (y ≡ true)
 both true true e = (refl, refl)
@@ -30,7 +30,7 @@ pub small : (i : ℕ) → i < 5 → 10 ^ i ≤ 10000
 small i h = pow-le-pow_right {n = 10} (omega arith) {i = i} {j = 4} (omega arith)
 
 module _ (n : ℕ) (text : List ℕ) (i : ℕ) (more : i < length text) where
-  pub no_digit : digit (get_or text i 0) ≡ false → number_from n (drop i text) ≡ Wrong
+  pub no_digit : digit (get_or text i 0) ≡ false → number_from n (drop i text) ≡ None
   unfolding number_from
   no_digit e = rw (drop-cons text i 0, e)
 

@@ -7,18 +7,12 @@ ghost use Rattle.std.specs.Prelude.{◌≡◌, take, drop};
 pub fn first(bytes: &[u8], count: usize) -> &[u8]
     ensures { result.now ≡ take count bytes.now }
 {
-    if bytes.len() <= count {
-        return bytes;
-    }
-    &bytes[0..count]
+    &bytes[..count.min(bytes.len())]
 }
 
 // The bytes from a place on, or none where there are no more.
 pub fn behind(bytes: &[u8], from: usize) -> &[u8]
     ensures { result.now ≡ drop from bytes.now }
 {
-    if bytes.len() <= from {
-        return &bytes[0..0];
-    }
-    &bytes[from..]
+    &bytes[from.min(bytes.len())..]
 }

@@ -1,15 +1,19 @@
-// Text put into a buffer that the caller lends: bytes, decimal numbers, hexadecimal bytes and words. What there is no
-// room for is left out; each call answers where the text ends.
+// Text put into a buffer that the caller lends: bytes, decimal numbers, hexadecimal bytes and words, and texts one behind
+// the other. What there is no room for is left out; each call answers where the text ends.
 #![tactic(auto)]
 
-ghost use Rattle.std.specs.Prelude.{◌≡◌, min, ◌<◌};
+ghost use Rattle.std.specs.Prelude.{◌≡◌, min, ◌<◌, List, ℕ, ◌++◌};
 ghost use Rattle.text_put.specs.Text.{put_at, end_of, decimal_of, hex_digit, hex_byte, hex_word};
 
-// The smaller of two numbers.
-fn least(a: usize, b: usize) -> usize
-    ensures { result ≡ min a b }
-{
-    if a < b { a } else { b }
+// What has a text that can be put.
+// Buffer and place are two parameters: the promise, put_at and end_of, is of both.
+pub trait Printed: Copy {
+    ghost text: { Self → List ℕ };
+
+    // Puts the text into the buffer from a place on.
+    fn put(self, buffer: &mut [u8], at: usize) -> usize
+        ensures value { result ≡ end_of buffer.old at (text self) }
+        ensures buffer_after { buffer.new ≡ put_at buffer.old at (text self) };
 }
 
 // Puts a text into the buffer from a place on.
@@ -21,24 +25,41 @@ pub fn put(buffer: &mut [u8], at: usize, text: &[u8]) -> usize
     if buffer.len() <= at {
         return buffer.len();
     }
-    let n = least(text.len(), buffer.len() - at);
-    let mut i = 0;
-    while i < n {
-        buffer[at + i] = text[i];
-        i += 1;
-    }
+    let n = text.len().min(buffer.len() - at);
+    buffer[at..at + n].copy_from_slice(&text[..n]);
     at + n
 }
 
-// Puts a number in decimal.
-#[tactic(auto, using(crate::proofs::Digits::decimal))]
-pub fn put_decimal(buffer: &mut [u8], at: usize, n: usize) -> usize
-    ensures value { result ≡ end_of buffer.old at (decimal_of n) }
-    ensures buffer_after { buffer.new ≡ put_at buffer.old at (decimal_of n) }
-{
-    let mut digits = [0u8; 20];
-    let count = io::decimal(n as u64, &mut digits);
-    put(buffer, at, &digits[..count])
+impl Printed for &[u8] {
+    ghost text = { λ s. s.now };
+
+    fn put(self, buffer: &mut [u8], at: usize) -> usize {
+        put(buffer, at, self)
+    }
+}
+
+impl<const N: usize> Printed for &[u8; N] {
+    ghost text = { λ s. s.now };
+
+    fn put(self, buffer: &mut [u8], at: usize) -> usize {
+        put(buffer, at, self.as_slice())
+    }
+}
+
+// A number, printed in decimal.
+#[derive(Clone, Copy)]
+pub struct Decimal(pub usize);
+
+impl Printed for Decimal {
+    ghost text = { λ n. decimal_of n.0 };
+
+    #[tactic(auto, using(crate::proofs::Digits::decimal))]
+    fn put(self, buffer: &mut [u8], at: usize) -> usize {
+        // An array of its own: io::decimal writes into one.
+        let mut digits = [0u8; 20];
+        let count = io::decimal(self.0 as u64, &mut digits);
+        put(buffer, at, &digits[..count])
+    }
 }
 
 // A hexadecimal digit, capital.
@@ -49,21 +70,65 @@ fn hex_digit(d: u8) -> u8
     if d < 10 { 48 + d } else { 55 + d }
 }
 
-// Puts a byte in two hexadecimal digits.
-pub fn put_byte(buffer: &mut [u8], at: usize, byte: u8) -> usize
-    ensures value { result ≡ end_of buffer.old at (hex_byte byte) }
-    ensures buffer_after { buffer.new ≡ put_at buffer.old at (hex_byte byte) }
-{
-    let digits = [hex_digit(byte / 16), hex_digit(byte % 16)];
-    put(buffer, at, &digits)
+// A byte, printed in two hexadecimal digits.
+#[derive(Clone, Copy)]
+pub struct HexByte(pub u8);
+
+impl Printed for HexByte {
+    ghost text = { λ byte. hex_byte byte.0 };
+
+    fn put(self, buffer: &mut [u8], at: usize) -> usize {
+        put(
+            buffer,
+            at,
+            &[hex_digit(self.0 / 16), hex_digit(self.0 % 16)],
+        )
+    }
 }
 
-// Puts a word in four hexadecimal digits.
-#[tactic(auto, using(crate::proofs::Laws::end_join, crate::proofs::Laws::put_join))]
-pub fn put_word(buffer: &mut [u8], at: usize, word: u16) -> usize
-    ensures value { result ≡ end_of buffer.old at (hex_word word) }
-    ensures buffer_after { buffer.new ≡ put_at buffer.old at (hex_word word) }
-{
-    let middle = put_byte(buffer, at, (word / 256) as u8);
-    put_byte(buffer, middle, (word % 256) as u8)
+// A word, printed in four hexadecimal digits.
+#[derive(Clone, Copy)]
+pub struct HexWord(pub u16);
+
+impl Printed for HexWord {
+    ghost text = { λ word. hex_word word.0 };
+
+    fn put(self, buffer: &mut [u8], at: usize) -> usize {
+        (HexByte((self.0 / 256) as u8), HexByte((self.0 % 256) as u8)).put(buffer, at)
+    }
+}
+
+// Texts one behind the other.
+impl<A: Printed, B: Printed> Printed for (A, B) {
+    ghost text = { λ p. A.text p.0 ++ B.text p.1 };
+
+    #[tactic(auto, using(crate::proofs::Laws::end_join, crate::proofs::Laws::put_join))]
+    fn put(self, buffer: &mut [u8], at: usize) -> usize {
+        let middle = self.0.put(buffer, at);
+        self.1.put(buffer, middle)
+    }
+}
+
+impl<A: Printed, B: Printed, C: Printed> Printed for (A, B, C) {
+    ghost text = { λ p. A.text p.0 ++ B.text p.1 ++ C.text p.2 };
+
+    fn put(self, buffer: &mut [u8], at: usize) -> usize {
+        ((self.0, self.1), self.2).put(buffer, at)
+    }
+}
+
+impl<A: Printed, B: Printed, C: Printed, D: Printed> Printed for (A, B, C, D) {
+    ghost text = { λ p. A.text p.0 ++ B.text p.1 ++ C.text p.2 ++ D.text p.3 };
+
+    fn put(self, buffer: &mut [u8], at: usize) -> usize {
+        ((self.0, self.1, self.2), self.3).put(buffer, at)
+    }
+}
+
+impl<A: Printed, B: Printed, C: Printed, D: Printed, E: Printed> Printed for (A, B, C, D, E) {
+    ghost text = { λ p. A.text p.0 ++ B.text p.1 ++ C.text p.2 ++ D.text p.3 ++ E.text p.4 };
+
+    fn put(self, buffer: &mut [u8], at: usize) -> usize {
+        ((self.0, self.1, self.2, self.3), self.4).put(buffer, at)
+    }
 }

@@ -1,4 +1,5 @@
 -- A step of the search goes by place and pen alone, and from a place of the buffer to a place of the buffer. Assumes nothing.
+use Rattle.std.specs.Prelude.{None, Option, Some}
 use Prim.Native.Nat.{ℕ, zero, suc}
 use mathlib.Core.Path.{◌≡◌, refl, subst}
 use mathlib.Core.Logic.{inl, inr}
@@ -18,17 +19,14 @@ use Rattle.validator_walks.specs.Places.{place, Proper}
 use Rattle.validator_walks.specs.Steps.{Leads, step_by}
 use Rattle.validator_walks.proofs.Looks.{look_sound}
 use Rattle.unit_drawing.specs.Drawing.{strokes_of}
-use Rattle.unit_drawing.specs.declared.Hit.TheVariants.{Missed}
 use Rattle.unit_drawing.proofs.Laws.{unseen}
 use Rattle.unit_head.specs.declared.State.{State}
 use Rattle.unit_step.specs.Step.{look_at, state_at, motion_at, hit_by, either_by, step_to, step_over, step_from}
 use Rattle.unit_step.specs.declared.Stepped.{Stepped}
 use Rattle.unit_step.specs.declared.Stepped.TheVariants as stepped
-use Rattle.typing_seek.specs.declared.Spot.{Spot}
-use Rattle.typing_seek.specs.declared.Spot.TheVariants.{At, Nowhere}
 use Rattle.typing_jump.specs.Jump.{landing_by, stepped_by, hop_by, hop_of, jump_by, jump_from}
-use Rattle.typing_jump.specs.declared.Hop.{Hop}
-use Rattle.typing_jump.specs.declared.Hop.TheVariants.{Ends, On}
+use Rattle.std.specs.declared.ops.ControlFlow.{ControlFlow}
+use Rattle.std.specs.declared.ops.ControlFlow.TheVariants.{Break, Continue}
 use Rattle.theorem_jump.specs.Jumps.{Same, ByPlaceAndPen}
 
 -- no sight falls on no item
@@ -36,31 +34,31 @@ none_seen : (b : Bool) → ◌≡◌ {A = ℕ} (cond b 0 0) 0
 none_seen true = refl
 none_seen false = refl
 
-no_sight : (s : State) (l : Look) → hit_by s (motion_at l s) (seen_of s.pen 0) ≡ Missed
+no_sight : (s : State) (l : Look) → hit_by s (motion_at l s) (seen_of s.pen 0) ≡ None
 unfolding seen_of
 no_sight s l = rw (none_seen (detects s.pen)) (unseen (strokes_of (motion_at l s) s.beam false false s.setup.size s.address))
 
 -- two steps of the search that end alike, or go on to the same place with the same pen
-abbrev SameHop : Hop → Hop → Type 0
-SameHop (Ends p) (Ends q) = p ≡ q
-SameHop (Ends p) (On t) = ⊥
-SameHop (On s) (Ends q) = ⊥
-SameHop (On s) (On t) = Same s t
+abbrev SameHop : ControlFlow (Option ℕ) State → ControlFlow (Option ℕ) State → Type 0
+SameHop (Break p) (Break q) = p ≡ q
+SameHop (Break p) (Continue t) = ⊥
+SameHop (Continue s) (Break q) = ⊥
+SameHop (Continue s) (Continue t) = Same s t
 
 module _ (words : List ℕ) (s : State) (running : Bool) (beam : Beam) where
   -- the same state with another beam, running or not
   abbrev other : State
   other = record { setup = s.setup; address = s.address; mode = s.mode; running = running; beam = beam; pen = s.pen }
 
-  enters : (m : Mode) (next : ℕ) (p : Spot) → SameHop (hop_by (stepped.Goes (state_at s next m)) p) (hop_by (stepped.Goes (state_at other next m)) p)
-  enters m next (At a) = refl
-  enters m next Nowhere = search
+  enters : (m : Mode) (next : ℕ) (p : Option ℕ) → SameHop (hop_by (stepped.Goes (state_at s next m)) p) (hop_by (stepped.Goes (state_at other next m)) p)
+  enters m next (Some a) = refl
+  enters m next None = search
 
   either : (target next : ℕ) (b : Bool) → SameHop (stepped_by (either_by s target next b)) (stepped_by (either_by other target next b))
   either target next true = search
   either target next false = search
 
-  by_look : (l : Look) → SameHop (hop_by (step_to s (beam_after (motion_at l s) s.beam) Missed l) (landing_by words s l)) (hop_by (step_to other (beam_after (motion_at l other) other.beam) Missed l) (landing_by words other l))
+  by_look : (l : Look) → SameHop (hop_by (step_to s (beam_after (motion_at l s) s.beam) None l) (landing_by words s l)) (hop_by (step_to other (beam_after (motion_at l other) other.beam) None l) (landing_by words other l))
   by_look (look.Fault f) = refl
   by_look (look.Check a) = refl
   by_look (look.Enter m next) = enters m next (landing_by words s (look.Enter m next))
@@ -82,11 +80,11 @@ same_hop words s t h =
     let e : other words s t.running t.beam ≡ t = rw (h.setup, h.address, h.mode, h.pen) in
     subst (λ (x : State). SameHop (hop_of words s) (hop_of words x)) e (other_hop words s t.running t.beam)
 
-jump_by_lem : (more : State → Spot) → ((s t : State) → Same s t → more s ≡ more t) → (a b : Hop) → SameHop a b → jump_by more a ≡ jump_by more b
-jump_by_lem more m (Ends p) (Ends q) h = h
-jump_by_lem more m (Ends p) (On t) h = absurd h
-jump_by_lem more m (On s) (Ends q) h = absurd h
-jump_by_lem more m (On s) (On t) h = m s t h
+jump_by_lem : (more : State → Option ℕ) → ((s t : State) → Same s t → more s ≡ more t) → (a b : ControlFlow (Option ℕ) State) → SameHop a b → jump_by more a ≡ jump_by more b
+jump_by_lem more m (Break p) (Break q) h = h
+jump_by_lem more m (Break p) (Continue t) h = absurd h
+jump_by_lem more m (Continue s) (Break q) h = absurd h
+jump_by_lem more m (Continue s) (Continue t) h = m s t h
 
 pub by_place_and_pen : ByPlaceAndPen
 unfolding jump_from
@@ -104,24 +102,24 @@ abbrev PlacedStep : Setup → Stepped → Type 0
 PlacedStep su (stepped.Goes t) = Placed su t
 PlacedStep su (stepped.Stops t e) = Unit {0}
 
-abbrev pub PlacedHop : Setup → Hop → Type 0
-PlacedHop su (Ends p) = Unit {0}
-PlacedHop su (On t) = Placed su t
+abbrev pub PlacedHop : Setup → ControlFlow (Option ℕ) State → Type 0
+PlacedHop su (Break p) = Unit {0}
+PlacedHop su (Continue t) = Placed su t
 
 placed_by : (su : Setup) (a : Stepped) → PlacedStep su a → PlacedHop su (stepped_by a)
 placed_by su (stepped.Goes t) h = h
 placed_by su (stepped.Stops t e) h = tt
 
-placed_hop_by : (su : Setup) (a : Stepped) (p : Spot) → PlacedStep su a → PlacedHop su (hop_by a p)
-placed_hop_by su a (At x) h = tt
-placed_hop_by su a Nowhere h = placed_by su a h
+placed_hop_by : (su : Setup) (a : Stepped) (p : Option ℕ) → PlacedStep su a → PlacedHop su (hop_by a p)
+placed_hop_by su a (Some x) h = tt
+placed_hop_by su a None h = placed_by su a h
 
 module _ (su : Setup) (s : State) (same : s.setup ≡ su) where
   placed_either : (target next : ℕ) (b : Bool) → Proper su.size (place target Idle) → Proper su.size (place next Idle) → PlacedStep su (either_by s target next b)
   placed_either target next true p q = record { same = same; proper = p }
   placed_either target next false p q = record { same = same; proper = q }
 
-  placed_step : (l : Look) → ((q : Place) → Leads (step_by s.mode l) q → Proper su.size q) → PlacedStep su (step_to s (beam_after (motion_at l s) s.beam) Missed l)
+  placed_step : (l : Look) → ((q : Place) → Leads (step_by s.mode l) q → Proper su.size q) → PlacedStep su (step_to s (beam_after (motion_at l s) s.beam) None l)
   placed_step (look.Fault f) P = tt
   placed_step (look.Check a) P = tt
   placed_step (look.Enter m next) P = record { same = same; proper = P _ refl }

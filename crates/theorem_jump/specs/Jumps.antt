@@ -1,6 +1,6 @@
 -- That the bound on jump's steps loses nothing (C-13, jump): "no such order before a place with the same pen comes again" is the same as
 -- none in as many steps as there are places and pens.
-use Rattle.std.specs.Prelude.{ℕ, ◌+◌, ◌*◌, ◌≡◌, Bool, true, false, List}
+use Rattle.std.specs.Prelude.{ℕ, ◌+◌, ◌*◌, ◌≡◌, Bool, true, false, List, Some}
 use Rattle.ground_orders.specs.declared.Mode.{Mode}
 use Rattle.ground_orders.specs.declared.PenMode.{PenMode}
 use Rattle.ground_orders.specs.declared.PenMode.TheVariants.{Normal, Disabled, NoSwitch}
@@ -9,7 +9,6 @@ use Rattle.validator_walks.specs.Places.{place, number_of}
 use Rattle.unit_head.specs.declared.State.{State}
 use Rattle.unit_step.specs.Step.{state_at}
 use Rattle.typing_signs.specs.Signs.{even_of}
-use Rattle.typing_seek.specs.declared.Spot.TheVariants.{At}
 use Rattle.typing_jump.specs.Jump.{jump_from, jump_of}
 
 -- two states at the same place with the same pen
@@ -45,4 +44,4 @@ state_number s = number_of s.setup.size (place s.address s.mode) * 48 + pen_numb
 -- where a search from the cursor's place that is followed for any number of steps finds unprotected characters, jump finds them
 abbrev pub LosesNothing : Type 0
 LosesNothing =
-    (words : List ℕ) (s : State) (a : ℕ) (m : Mode) (k to : ℕ) → jump_from words k (state_at s (even_of s.setup.size a) m) ≡ At to → jump_of words s a m ≡ At to
+    (words : List ℕ) (s : State) (a : ℕ) (m : Mode) (k to : ℕ) → jump_from words k (state_at s (even_of s.setup.size a) m) ≡ Some to → jump_of words s a m ≡ Some to

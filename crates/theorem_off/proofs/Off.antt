@@ -16,6 +16,7 @@ use Rattle.unit_motion.specs.declared.Moved.TheVariants.{Absolute}
 use Rattle.unit_motion.specs.declared.Trace.{Trace}
 use Rattle.unit_motion.specs.declared.Trace.TheVariants as trace
 use Rattle.unit_drawing.specs.Drawing.{stroke, point_at, vector_at, trace_strokes, strokes_of, upto, hit_in}
+use Rattle.std.specs.Prelude.{Option}
 use Rattle.unit_drawing.specs.declared.Hit.{Hit}
 use Rattle.unit_drawing.proofs.Laws.{upto_one}
 use Rattle.ground_setup.specs.Setup.{wrap_of}
@@ -88,7 +89,7 @@ mark_alone s l sight c0 c1 t to off off' =
     let at = wrap_of s.setup.size s.address in
     let seen = seen_of s.pen sight in
     record {
-      same = ap (λ (h : Hit). step_to s to h l) (same_hit t s.beam to off off' at seen);
+      same = ap (λ (h : Option Hit). step_to s to h l) (same_hit t s.beam to off off' at seen);
       alike = same_items t s.beam to off off' at seen;
     }
 

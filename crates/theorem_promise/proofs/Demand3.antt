@@ -1,4 +1,5 @@
 -- Demand 3's two promises: to a device that is loaded with a passed image and started, and to whoever is told a fault. Assumes nothing.
+use Rattle.std.specs.Prelude.{Err, Ok}
 use Prim.Native.Nat.{ℕ, zero, suc, ◌+◌, ◌*◌, ◌/◌, ◌%◌, ◌<◌, ◌≤◌}
 use native.Mathlib.Numerals.{add-one}
 use native.Mathlib.Omega.{arith}
@@ -20,7 +21,6 @@ use Rattle.validator_walks.specs.Walks.{Reach}
 use Rattle.validator_verdict.specs.Verdict.{VerdictValues}
 use Rattle.validator_verdict.proofs.Tells.{LookedAt, judged_tells}
 use Rattle.unit_codes.specs.Codes.{row_of, near_fit}
-use Rattle.unit_codes.specs.declared.Sent.TheVariants.{Fit, Refused}
 use Rattle.ground_refusals.specs.declared.Refusal.TheVariants.{OddStart, FarStart}
 use Rattle.unit_commands.specs.Commands.{CommandEnd, in_state, reset, started_at, command_by, unit_command}
 use Rattle.unit_head.specs.Head.{DisplayUnit, size_in, fresh_unit}
@@ -46,8 +46,8 @@ started_is u start room waiting even inside =
     let e : start / 0x100 * 0x100 + start % 0x100 ≡ start = omega arith in
     let bytes = address_bytes start in
     let a = start / 0x100 * 0x100 + start % 0x100 in
-    ap (λ (t : Bool). (command_by u (row_of 0x27) bytes room (cond t (Refused OddStart) (near_fit (size_in u) a))).unit) (ne_eqb (a % 2) 1 (λ o. omega arith))
-    ∙ ap (λ (t : Bool). (command_by u (row_of 0x27) bytes room (cond t Fit (Refused FarStart))).unit) (lt-ltb a (size_of (size_in u)) (omega arith))
+    ap (λ (t : Bool). (command_by u (row_of 0x27) bytes room (cond t (Err OddStart) (near_fit (size_in u) a))).unit) (ne_eqb (a % 2) 1 (λ o. omega arith))
+    ∙ ap (λ (t : Bool). (command_by u (row_of 0x27) bytes room (cond t (Ok tt) (Err FarStart))).unit) (lt-ltb a (size_of (size_in u)) (omega arith))
     ∙ ap (λ (o : CommandEnd). o.unit) (tried_is u (row_of 0x27) bytes room waiting (or_true (not u.head.state.running)))
     ∙ ap (λ (x : ℕ). in_state (reset u) (started_at u.head.state x)) e
 
@@ -130,6 +130,6 @@ module _ (step : Place → Step Place) where
 pub no_false_alarm : NoFalseAlarm
 no_false_alarm image size start n a k store left judged =
     let l = judged_tells image size start store left (VerdictValues.fault n a k) tt judged in
-    let first = l.right in
+    let first = l.right.2 in
     let w = walked (step_of image (setup l.buffer)) (place start Idle) k first.met first.here in
-    record { buffer = l.buffer; sized = l.sized; places = w.0; last = first.met; steps = w.1; walk = w.2; at = first.at; faulty = first.faulty }
+    record { buffer = l.buffer; sized = l.sized; places = w.0; last = first.met; steps = w.1; walk = w.2; at = first.at; fault = l.right.0; number = l.right.1; faulty = first.faulty }

@@ -1,4 +1,5 @@
 -- An event that the promise outlasts keeps a unit safe; and which events it outlasts. Assumes nothing.
+use Rattle.std.specs.Prelude.{Err, Ok, Result}
 use Prim.Native.Nat.{ℕ, ◌≤◌}
 use native.Mathlib.Omega.{arith}
 use mathlib.Core.Path.{◌≡◌, refl, sym, ap, ◌∙◌}
@@ -13,13 +14,12 @@ use Rattle.ground_setup.specs.Setup.{size_of}
 use Rattle.ground_setup.specs.declared.Setup.{Setup}
 use Rattle.ground_look.specs.Loaded.{Location}
 use Rattle.ground_words.proofs.Laws.{either_way}
+use Rattle.ground_refusals.specs.declared.Refusal.{Refusal}
 use Rattle.unit_cursor.proofs.Alike.{alike_refl, set_alike, cleared_alike}
 use Rattle.unit_codes.specs.Codes.{row_of, sent_by}
 use Rattle.unit_codes.specs.declared.Command.{Command}
 use Rattle.unit_codes.specs.declared.Command.TheVariants as command
 use Rattle.unit_codes.specs.declared.CommandRow.{CommandRow}
-use Rattle.unit_codes.specs.declared.Sent.{Sent}
-use Rattle.unit_codes.specs.declared.Sent.TheVariants as sent
 use Rattle.unit_codes.proofs.Rows.{RowFits, row_fits}
 use Rattle.unit_commands.specs.Commands.{CommandValues, CommandEnd, waiting_of, rejected_of, location_of, done_of, allowed, tried_command, command_by, unit_command}
 use Rattle.unit_commands.proofs.Laws.{stopped_by}
@@ -153,10 +153,10 @@ module _ (u : DisplayUnit) where
       status_on true q = allowed_on (allowed row.running u.head.state.running) refl q
       status_on false q = waiting_on row.command
 
-      command_on : (fit : Sent) → Q (command_by u row bytes room fit) → On (command_by u row bytes room fit)
+      command_on : (fit : Result (Unit {0}) Refusal) → Q (command_by u row bytes room fit) → On (command_by u row bytes room fit)
       unfolding tried_command
-      command_on (sent.Refused r) q = head_on u.head refl
-      command_on sent.Fit q = status_on (eqb u.head.status 0) q
+      command_on (Err r) q = head_on u.head refl
+      command_on (Ok tt) q = status_on (eqb u.head.status 0) q
 
 -- a command whose end tells that it was gentle if it was done
 pub command_told_lem : (u : DisplayUnit) (code : ℕ) (bytes room : List ℕ) (Q : CommandEnd → Type 0) → (Q (done_of u (row_of code).command bytes room) → Gentle (row_of code).command)
@@ -230,10 +230,10 @@ pub rejected_outlasted : RejectedOutlasted
 rejected_outlasted u code bytes room e =
     command_told_lem u code bytes room (λ (o : CommandEnd). o.answer ≡ CommandValues.ended 0x02 0) (rejected_gentle u (row_of code).command bytes room) e
 
-waiting_by : (u : DisplayUnit) (row : CommandRow) (bytes room : List ℕ) → u.head.status ≢ 0 → (fit : Sent) → GoesOn u (command_by u row bytes room fit).unit
+waiting_by : (u : DisplayUnit) (row : CommandRow) (bytes room : List ℕ) → u.head.status ≢ 0 → (fit : Result (Unit {0}) Refusal) → GoesOn u (command_by u row bytes room fit).unit
 unfolding tried_command
-waiting_by u row bytes room n (sent.Refused r) = head_on u u.head refl
-waiting_by u row bytes room n sent.Fit = simp (ne_eqb u.head.status 0 n) (waiting_on u bytes room row.command)
+waiting_by u row bytes room n (Err r) = head_on u u.head refl
+waiting_by u row bytes room n (Ok tt) = simp (ne_eqb u.head.status 0 n) (waiting_on u bytes room row.command)
 
 pub waiting_outlasted : WaitingOutlasted
 unfolding unit_command

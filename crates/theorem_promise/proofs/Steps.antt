@@ -8,7 +8,9 @@ use mathlib.Core.List.{List}
 use Rattle.ground_setup.specs.declared.Setup.{Setup}
 use Rattle.ground_orders.specs.declared.Mode.TheVariants.{Idle}
 use Rattle.ground_groups.specs.Groups.{image_group}
-use Rattle.ground_look.specs.Look.{fault_number, look_of}
+use Rattle.std.specs.Prelude.{None, Option, Some}
+use Rattle.ground_look.specs.Look.{look_of}
+use Rattle.ground_look.specs.declared.Fault.{Fault}
 use Rattle.ground_look.specs.Loaded.{Carries}
 use Rattle.ground_look.proofs.Loaded.{same_look}
 use Rattle.ground_look.specs.declared.Look.{Look}
@@ -21,7 +23,6 @@ use Rattle.validator_walks.specs.Walks.{Reach, Reached}
 use Rattle.validator_walks.proofs.Looks.{no_check}
 use Rattle.validator_walks.specs.declared.Place.{Place}
 use Rattle.unit_drawing.specs.declared.Hit.{Hit}
-use Rattle.unit_drawing.specs.declared.Hit.TheVariants as hit
 use Rattle.unit_head.specs.declared.State.{State}
 use Rattle.unit_step.specs.Step.{look_at, motion_at, step_to, step_over, step_from, hit_by, either_by}
 use Rattle.unit_step.specs.declared.Stop.{Stop}
@@ -44,7 +45,7 @@ sound_detect = record { no_fault = λ a b. omega arith; no_check = λ e. omega a
 module _ (image : List ℕ) (su : Setup) (start : ℕ) where
   -- no walk, however long, meets a fault
   abbrev pub Clear : Type 0
-  Clear = (k : ℕ) (p : Place) (n : ℕ) → Reach (step_of image su) (place start Idle) k p → step_of image su p ≡ Step.faulty n → ⊥
+  Clear = (k : ℕ) (p : Place) (f : Fault) → Reach (step_of image su) (place start Idle) k p → step_of image su p ≡ Step.faulty f → ⊥
 
   -- where a state runs, some walk from the start reaches its place
   pub record Within (s : State) : Type 0 where
@@ -71,8 +72,8 @@ module _ (image : List ℕ) (su : Setup) (start : ℕ) where
     either_kept t next e true = (runs, record { same = λ r. same; reached = λ r. goes (look.Either t next) e (place t Idle) (inl refl) })
     either_kept t next e false = (runs, record { same = λ r. same; reached = λ r. goes (look.Either t next) e (place next Idle) (inr refl) })
 
-    kept_by : (h : Hit) (l : Look) → look_of (image_group image su) su s.address s.mode ≡ l → step_of image su (place s.address s.mode) ≡ step_by s.mode l → Kept (step_to s (beam_after (motion_at l s) s.beam) h l)
-    kept_by h (look.Fault f) e w = absurd (clear k _ (fault_number f) here w)
+    kept_by : (h : Option Hit) (l : Look) → look_of (image_group image su) su s.address s.mode ≡ l → step_of image su (place s.address s.mode) ≡ step_by s.mode l → Kept (step_to s (beam_after (motion_at l s) s.beam) h l)
+    kept_by h (look.Fault f) e w = absurd (clear k _ f here w)
     kept_by h (look.Check a) e w = absurd (no_check image su s.address s.mode a e)
     kept_by h (look.Enter m next) e w = (runs, record { same = λ r. same; reached = λ r. goes (look.Enter m next) w (place next m) refl })
     kept_by h (look.Pass next) e w = (runs, record { same = λ r. same; reached = λ r. goes (look.Pass next) w (place next Idle) refl })
@@ -81,10 +82,10 @@ module _ (image : List ℕ) (su : Setup) (start : ℕ) where
     kept_by h (look.End next) e w = (sound_order, stood _ refl)
     kept_by h (look.Jump t) e w = (runs, record { same = λ r. same; reached = λ r. goes (look.Jump t) w (place t Idle) refl })
     kept_by h (look.Either t next) e w = either_kept t next w (transfers s.pen)
-    kept_by hit.Missed (look.Two a b next) e w = (runs, record { same = λ r. same; reached = λ r. goes (look.Two a b next) w (place next s.mode) refl })
-    kept_by (hit.At a b) (look.Two c d next) e w = (sound_detect, stood _ refl)
-    kept_by hit.Missed (look.Four a b c d next) e w = (runs, record { same = λ r. same; reached = λ r. goes (look.Four a b c d next) w (place next s.mode) refl })
-    kept_by (hit.At a b) (look.Four c d f g next) e w = (sound_detect, stood _ refl)
+    kept_by None (look.Two a b next) e w = (runs, record { same = λ r. same; reached = λ r. goes (look.Two a b next) w (place next s.mode) refl })
+    kept_by (Some h) (look.Two c d next) e w = (sound_detect, stood _ refl)
+    kept_by None (look.Four a b c d next) e w = (runs, record { same = λ r. same; reached = λ r. goes (look.Four a b c d next) w (place next s.mode) refl })
+    kept_by (Some h) (look.Four c d f g next) e w = (sound_detect, stood _ refl)
 
     -- a step with any sight
     pub step_kept : (words : List ℕ) → Carries words image → (sight : ℕ) → Kept (step_from words s sight)

@@ -1,6 +1,8 @@
 -- A fault that the validator names is no false alarm: some walk, which one can follow place by place, meets it.
 use Rattle.std.specs.Prelude.{ℕ, ◌≡◌, List, [], ◌∷◌, length}
 use Rattle.ground_orders.specs.declared.Mode.TheVariants.{Idle}
+use Rattle.ground_look.specs.Look.{fault_number}
+use Rattle.ground_look.specs.declared.Fault.{Fault}
 use Rattle.ground_setup.specs.Setup.{size_of, setup}
 use Rattle.ground_setup.specs.declared.Size.{Size}
 use Rattle.validator_walks.specs.declared.Place.{Place}
@@ -13,7 +15,7 @@ abbrev pub Walk : (Place → Step Place) → Place → List Place → Place → 
 Walk step p [] q = q ≡ p
 Walk step p (r ∷ rs) q = Leads (step p) r × Walk step r rs q
 
--- a walk of k steps from the start to a place at address a whose step is fault n
+-- a walk of k steps from the start to a place at address a whose step is the fault of number n
 pub record Alarm (image : List ℕ) (size start n a k : ℕ) : Type 0 where
   pub buffer : Size
   pub sized : size ≡ size_of buffer
@@ -22,7 +24,9 @@ pub record Alarm (image : List ℕ) (size start n a k : ℕ) : Type 0 where
   pub steps : length places ≡ k
   pub walk : Walk (step_of image (setup buffer)) (place start Idle) places last
   pub at : last.at ≡ a
-  pub faulty : step_of image (setup buffer) last ≡ Step.faulty n
+  pub fault : Fault
+  pub number : fault_number fault ≡ n
+  pub faulty : step_of image (setup buffer) last ≡ Step.faulty fault
 
 -- where the validator's own answer is a fault
 abbrev pub NoFalseAlarm : Type 0

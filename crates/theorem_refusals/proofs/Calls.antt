@@ -1,4 +1,7 @@
 -- Demand 1 shown for the calls of the unit: a refusal alters nothing, and advancing never stores. Assumes nothing.
+use Rattle.std.specs.Prelude.{Err, None, Ok, Option, Result, Some}
+use Rattle.ground_setup.specs.declared.Size.{Size}
+use Rattle.ground_refusals.specs.declared.Refusal.{Refusal}
 use Prim.Native.Nat.{ℕ}
 use native.Mathlib.Omega.{arith}
 use mathlib.Core.Path.{◌≡◌, refl}
@@ -6,8 +9,6 @@ use mathlib.Core.List.{List}
 use lib.Dec.{eqb, leb}
 use lib.ListN.{length}
 use Rattle.ground_setup.specs.Setup.{size_of, sized_of}
-use Rattle.ground_setup.specs.declared.Sized.{Sized}
-use Rattle.ground_setup.specs.declared.Sized.TheVariants as sized
 use Rattle.ground_words.proofs.Laws.{either_way}
 use Rattle.unit_head.specs.Head.{DisplayUnit, size_in}
 use Rattle.unit_loading.specs.Loading.{LoadValues, LoadEnd, load_end, all_proper, loaded_by, unit_load}
@@ -15,12 +16,8 @@ use Rattle.unit_codes.specs.Codes.{row_of, sent_by}
 use Rattle.unit_codes.specs.declared.Command.{Command}
 use Rattle.unit_codes.specs.declared.Command.TheVariants as command
 use Rattle.unit_codes.specs.declared.CommandRow.{CommandRow}
-use Rattle.unit_codes.specs.declared.Sent.{Sent}
-use Rattle.unit_codes.specs.declared.Sent.TheVariants as sent
 use Rattle.unit_commands.specs.Commands.{CommandValues, CommandEnd, done_of, allowed, tried_command, command_by, unit_command}
 use Rattle.unit_items.specs.Items.{listing, listed}
-use Rattle.unit_items.specs.declared.Listing.{Listing}
-use Rattle.unit_items.specs.declared.Listing.TheVariants.{Full, Held}
 use Rattle.unit_items.proofs.Laws.{full_listed}
 use Rattle.unit_advance.specs.Advance.{AdvanceValues, AdvanceEnd, all_sights, gone_over, unit_advance}
 use Rattle.unit_list.specs.List.{next_items, ListValues, listing_values, ListEnd, unit_list}
@@ -55,10 +52,10 @@ module _ (u : DisplayUnit) (bytes room : List ℕ) where
       either_way Ended (eqb u.head.status 0)
       (either_way Ended (allowed row.running u.head.state.running) (done_ended row.command) (status_ended _ _)) (status_ended _ _)
 
-  command_by_lem : (row : CommandRow) (fit : Sent) (n : ℕ) → (command_by u row bytes room fit).answer ≡ CommandValues.refused n
+  command_by_lem : (row : CommandRow) (fit : Result (Unit {0}) Refusal) (n : ℕ) → (command_by u row bytes room fit).answer ≡ CommandValues.refused n
       → AsBefore u (command_by u row bytes room fit).unit room (command_by u row bytes room fit).room
-  command_by_lem row sent.Fit n e = absurd (tried_ended row n e)
-  command_by_lem row (sent.Refused r) n e = record { unit = refl; memory = refl }
+  command_by_lem row (Ok tt) n e = absurd (tried_ended row n e)
+  command_by_lem row (Err r) n e = record { unit = refl; memory = refl }
 
 pub command_refused : CommandRefused
 unfolding unit_command
@@ -72,9 +69,9 @@ module _ (u : DisplayUnit) (dump : List ℕ) where
   done_left : (x : DisplayUnit) → LeftAlone (load_end x LoadValues.loaded)
   done_left x n e = let z : ◌≡◌ {A = ℕ} 0 1 = cc in absurd (omega arith)
 
-  loaded_by_lem : (s : Sized) → LeftAlone (loaded_by u dump s)
-  loaded_by_lem (sized.Refused r) = λ n e. refl
-  loaded_by_lem (sized.Of s) =
+  loaded_by_lem : (s : Result Size Refusal) → LeftAlone (loaded_by u dump s)
+  loaded_by_lem (Err r) = λ n e. refl
+  loaded_by_lem (Ok s) =
       either_way LeftAlone (eqb (length dump) (size_of s)) (either_way LeftAlone (all_proper dump) (done_left _) (λ n e. refl)) (λ n e. refl)
 
 pub load_refused_lem : LoadRefused
@@ -97,16 +94,16 @@ module _ (u : DisplayUnit) (sight held : ℕ) (out : List ℕ) where
   abbrev Fully : ListEnd → Type 0
   Fully r = r.answer ≡ ListValues.full → r.list ≡ out
 
-  abbrev put : Listing → ListEnd
+  abbrev put : Option ℕ → ListEnd
   put l = record { answer = listing_values l; list = listed out held (next_items u sight) }
 
-  put_on : (l : Listing) → Refused (put l)
-  put_on Full n e = let z : ◌≡◌ {A = ℕ} 0 1 = cc in absurd (omega arith)
-  put_on (Held k) n e = let z : ◌≡◌ {A = ℕ} 0 1 = cc in absurd (omega arith)
+  put_on : (l : Option ℕ) → Refused (put l)
+  put_on None n e = let z : ◌≡◌ {A = ℕ} 0 1 = cc in absurd (omega arith)
+  put_on (Some k) n e = let z : ◌≡◌ {A = ℕ} 0 1 = cc in absurd (omega arith)
 
-  put_full : (l : Listing) → listing (length out) held (next_items u sight) ≡ l → Fully (put l)
-  put_full Full h e = full_listed out held (next_items u sight) h
-  put_full (Held k) h e = let z : ◌≡◌ {A = ℕ} 0 1 = cc in absurd (omega arith)
+  put_full : (l : Option ℕ) → listing (length out) held (next_items u sight) ≡ l → Fully (put l)
+  put_full None h e = full_listed out held (next_items u sight) h
+  put_full (Some k) h e = let z : ◌≡◌ {A = ℕ} 0 1 = cc in absurd (omega arith)
 
 pub list_refused : ListRefused
 unfolding unit_list

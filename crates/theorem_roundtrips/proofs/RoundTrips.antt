@@ -1,4 +1,5 @@
 -- Demand 2 shown: what is written comes back, what is read and written back stands. Assumes nothing.
+use Rattle.std.specs.Prelude.{Err, Ok}
 use Prim.Native.Nat.{ℕ, ◌+◌, ◌*◌, ◌/◌, ◌%◌, ◌≤◌, ◌<◌}
 use native.Mathlib.Omega.{arith}
 use mathlib.Core.Path.{◌≡◌, refl, sym, ap, subst, ◌∙◌}
@@ -17,7 +18,6 @@ use Rattle.unit_buffer.specs.declared.Read.{Read}
 use Rattle.unit_head.specs.Head.{DisplayUnit, unit, size_in, buffer_of, fresh_unit}
 use Rattle.unit_codes.specs.Codes.{row_of}
 use Rattle.unit_codes.specs.declared.CommandRow.{CommandRow}
-use Rattle.unit_codes.specs.declared.Sent.TheVariants as sent
 use Rattle.ground_refusals.specs.declared.Refusal.TheVariants.{FarStart}
 use Rattle.unit_commands.specs.Commands.{CommandValues, CommandEnd, done, checked, in_state, reset, stopped_at, written_by, read_by, done_of, allowed, tried_command, command_by, unit_command}
 use Rattle.theorem_roundtrips.specs.RoundTrips.{Quiet, address_bytes, addressed, written, read, Gives, ComesBack, data_at, Stands}
@@ -46,7 +46,7 @@ unfolding unit_command row_of
 addressed_is u a lent q h =
     let e : a / 0x100 * 0x100 + a % 0x100 ≡ a = omega arith in
     let bytes = address_bytes a in
-    ap (λ (t : Bool). (command_by u (row_of 0x07) bytes lent (cond t sent.Fit (sent.Refused FarStart))).unit) (lt-ltb (a / 0x100 * 0x100 + a % 0x100) (size_of (size_in u)) (omega arith))
+    ap (λ (t : Bool). (command_by u (row_of 0x07) bytes lent (cond t (Ok tt) (Err FarStart))).unit) (lt-ltb (a / 0x100 * 0x100 + a % 0x100) (size_of (size_in u)) (omega arith))
     ∙ ap (λ (o : CommandEnd). o.unit) (quiet_is u (row_of 0x07) bytes lent q)
     ∙ ap (there u) e
 

@@ -1,4 +1,5 @@
 -- The pair shown to be the run, and where it ends with 9. Assumes nothing.
+use Rattle.std.specs.Prelude.{None, Option, Some}
 use Prim.Native.Nat.{ℕ, suc, ◌+◌}
 use native.Mathlib.Omega.{arith}
 use mathlib.Core.Path.{◌≡◌, refl, sym, ap, subst, ◌∙◌}
@@ -15,11 +16,8 @@ use Rattle.unit_pen.specs.Pen.{transfers}
 use Rattle.unit_motion.specs.Motion.{motion_of}
 use Rattle.unit_motion.specs.declared.Motion.TheVariants.{Still}
 use Rattle.unit_drawing.specs.declared.Hit.{Hit}
-use Rattle.unit_drawing.specs.declared.Hit.TheVariants as hit
 use Rattle.unit_items.specs.Items.{listing, listed}
 use Rattle.unit_items.specs.declared.Item.{Item}
-use Rattle.unit_items.specs.declared.Listing.{Listing}
-use Rattle.unit_items.specs.declared.Listing.TheVariants.{Full, Held}
 use Rattle.unit_items.proofs.Laws.{none_listing, none_listed, listing_append, length_listed}
 use Rattle.unit_cursor.specs.Cursor.{buffer}
 use Rattle.unit_head.specs.Head.{DisplayUnit, unit, with_state, buffer_of}
@@ -50,15 +48,15 @@ module _ (s s' : State) (e : Stop) (none : steps_at e ≡ 0) where
   counts : {A : Type 0} {x : State} (f : Stop) → steps_at f ≡ 1 → Stops x f ≡ Stops s' e → A
   counts f one h = let same : f ≡ e = cc in absurd (omega (arith, none, one, ap steps_at same))
 
-  bare_data : {A : Type 0} (b : Beam) (next : ℕ) (h : Hit) → data_to s b next h ≡ Stops s' e → A
-  bare_data b next hit.Missed k = goes_stops k
-  bare_data b next (hit.At a to) k = counts stop.Detect refl k
+  bare_data : {A : Type 0} (b : Beam) (next : ℕ) (h : Option Hit) → data_to s b next h ≡ Stops s' e → A
+  bare_data b next None k = goes_stops k
+  bare_data b next (Some h) k = counts stop.Detect refl k
 
   bare_either : {A : Type 0} (target next : ℕ) (t : Bool) → either_by s target next t ≡ Stops s' e → A
   bare_either target next true k = goes_stops k
   bare_either target next false k = goes_stops k
 
-  bare_by : (b : Beam) (h : Hit) (l : Look) → step_to s b h l ≡ Stops s' e → motion_at l s ≡ Still
+  bare_by : (b : Beam) (h : Option Hit) (l : Look) → step_to s b h l ≡ Stops s' e → motion_at l s ≡ Still
   unfolding motion_of
   bare_by b h (look.Fault f) k = refl
   bare_by b h (look.Check a) k = refl
@@ -90,7 +88,7 @@ module _ (words : List ℕ) where
     abbrev list' : List ℕ
     list' = listed list held own
 
-    abbrev Is : Stepped → Listing → Type 0
+    abbrev Is : Stepped → Option ℕ → Type 0
     Is st l =
         pair_from (unit words h) (g ∷ gs) n held list
         ≡ ran_by (unit words h) (course_by h.state n held list list' (λ s' k. run_from (buffer words h.cursor) gs s' (n + 1) k list') st l)
@@ -107,16 +105,16 @@ module _ (words : List ℕ) where
         ∙ ap (λ (l : List ℕ). run_end (unit words (head_after h (progress x 0 (Stopped e)))) (RunValues.ran n (stop_number e) held) l) (none_listed list held own bare)
 
     -- one that ends the run and counts
-    ends : (x : State) (e : Stop) → step_from words h.state g ≡ Stops x e → steps_at e ≡ 1 → (l : Listing) → listing (length list) held own ≡ l
+    ends : (x : State) (e : Stop) → step_from words h.state g ≡ Stops x e → steps_at e ≡ 1 → (l : Option ℕ) → listing (length list) held own ≡ l
         → pair_from (unit words h) (g ∷ gs) n held list ≡ ran_by (unit words h) (ended_with h.state n held list list' x e l)
-    ends x e f one Full d = one_full words h runs g gs n held list sight d
-    ends x e f one (Held k) d =
+    ends x e f one None d = one_full words h runs g gs n held list sight d
+    ends x e f one (Some k) d =
         one_listed words h runs g gs n held k list sight d ∙ over_stops words h runs n k list' (λ u' n'. pair_from u' gs n' k list') g [] x e f
         ∙ ap (λ (j : ℕ). run_end (unit words (head_after h (progress x 0 (Stopped e)))) (RunValues.ran (n + j) (stop_number e) k) list') one
 
-    is_by : (st : Stepped) → step_from words h.state g ≡ st → (l : Listing) → listing (length list) held own ≡ l → Is st l
-    is_by (Goes x) f Full d = one_full words h runs g gs n held list sight d
-    is_by (Goes x) f (Held k) d =
+    is_by : (st : Stepped) → step_from words h.state g ≡ st → (l : Option ℕ) → listing (length list) held own ≡ l → Is st l
+    is_by (Goes x) f None d = one_full words h runs g gs n held list sight d
+    is_by (Goes x) f (Some k) d =
         let runs' = still_runs words h.state x g f ∙ runs in
         one_listed words h runs g gs n held k list sight d
         ∙ over_goes words h runs n k list' (λ u' n'. pair_from u' gs n' k list') g [] x f runs'
@@ -221,7 +219,7 @@ module _ (words : List ℕ) where
     listed' = listed list held drawn
 
     -- here
-    finds_here : listing (length list) held drawn ≡ Full → Found (unit words h) (g ∷ gs) n held list m k
+    finds_here : listing (length list) held drawn ≡ None → Found (unit words h) (g ∷ gs) n held list m k
     unfolding items_run
     finds_here d =
         let e = sym (ap (λ (r : RunEnd). r.answer) (one_full words h runs g gs n held list sight d)) ∙ ended in
@@ -234,13 +232,13 @@ module _ (words : List ℕ) where
             behind = h.state;
             next = omega arith;
             gone = steps.over_none words (g ∷ gs) h.state;
-            fits = none_listing (length list) held [] refl ∙ ap Held all;
+            fits = none_listing (length list) held [] refl ∙ ap Some all;
             full = ap (λ (j : ℕ). listing (length list) j drawn) (sym all) ∙ d;
           };
         }
 
     -- or behind a step that goes on
-    module _ (k₁ : ℕ) (d : listing (length list) held drawn ≡ Held k₁) (x : State) (f : step_from words h.state g ≡ Goes x) where
+    module _ (k₁ : ℕ) (d : listing (length list) held drawn ≡ Some k₁) (x : State) (f : step_from words h.state g ≡ Goes x) where
       long : length listed' ≡ length list
       long = length_listed list held drawn
 
@@ -268,12 +266,12 @@ module _ (words : List ℕ) where
             };
           }
 
-    finds_by : (l : Listing) → listing (length list) held drawn ≡ l → (st : Stepped) → step_from words h.state g ≡ st → Found (unit words h) (g ∷ gs) n held list m k
-    finds_by Full d st f = finds_here d
-    finds_by (Held k₁) d (Goes x) f =
+    finds_by : (l : Option ℕ) → listing (length list) held drawn ≡ l → (st : Stepped) → step_from words h.state g ≡ st → Found (unit words h) (g ∷ gs) n held list m k
+    finds_by None d st f = finds_here d
+    finds_by (Some k₁) d (Goes x) f =
         let e = sym (ap (λ (r : RunEnd). r.answer) (onto k₁ d x f)) ∙ ended in
         behind_it k₁ d x f (more (with_state h x) (still_runs words h.state x g f ∙ runs) sights (n + 1) k₁ listed' m k e)
-    finds_by (Held k₁) d (Stops x s) f =
+    finds_by (Some k₁) d (Stops x s) f =
         let stops = one_listed words h runs g gs n held k₁ list sight d ∙ over_stops words h runs n k₁ listed' (λ u' n'. pair_from u' gs n' k₁ listed') g [] x s f in
         let e = sym (ap (λ (r : RunEnd). r.answer) stops) ∙ ended in
         let nine : stop_number s ≡ 9 = cc in

@@ -1,9 +1,7 @@
 -- A run as 01, "The pen", has it, advancing and listing in one: it "is given one sight per step and answers the steps done and why it ended, with its
 -- drawn list". No call does this; `Together` says that the two calls do.
-use Rattle.std.specs.Prelude.{ℕ, ◌+◌, cond, List, [], ◌∷◌, length}
+use Rattle.std.specs.Prelude.{ℕ, ◌+◌, cond, List, [], ◌∷◌, length, None, Option, Some}
 use Rattle.unit_items.specs.Items.{listing, listed}
-use Rattle.unit_items.specs.declared.Listing.{Listing}
-use Rattle.unit_items.specs.declared.Listing.TheVariants.{Full, Held}
 use Rattle.unit_cursor.specs.Cursor.{Buffer}
 use Rattle.unit_head.specs.Head.{DisplayUnit, unit, buffer_of}
 use Rattle.unit_head.specs.declared.State.{State}
@@ -38,28 +36,28 @@ module _ (s : State) (n items : ℕ) (list list' : List ℕ) where
   no_room = course s n NoRoom items list
 
   -- a step that goes on, if what it draws fits
-  abbrev pub gone_on : (State → ℕ → Course) → State → Listing → Course
-  gone_on more s' Full = no_room
-  gone_on more s' (Held k) = more s' k
+  abbrev pub gone_on : (State → ℕ → Course) → State → Option ℕ → Course
+  gone_on more s' None = no_room
+  gone_on more s' (Some k) = more s' k
 
   -- one that ends the run and counts, if what it draws fits
-  abbrev pub ended_with : State → Stop → Listing → Course
-  ended_with s' e Full = no_room
-  ended_with s' e (Held k) = course s' (n + 1) (Ended (end.Stopped e)) k list'
+  abbrev pub ended_with : State → Stop → Option ℕ → Course
+  ended_with s' e None = no_room
+  ended_with s' e (Some k) = course s' (n + 1) (Ended (end.Stopped e)) k list'
 
   -- one that is not done
   abbrev pub not_done : State → Stop → Course
   not_done s' e = course s' n (Ended (end.Stopped e)) items list
 
   -- "Steps ended by 6 and 7 count; those ended by 1 to 5, 8 and 9 are not done"
-  abbrev pub halted_by : State → Stop → Listing → Course
+  abbrev pub halted_by : State → Stop → Option ℕ → Course
   halted_by s' (stop.Fault f) l = not_done s' (stop.Fault f)
   halted_by s' stop.EndOrder l = ended_with s' stop.EndOrder l
   halted_by s' stop.Detect l = ended_with s' stop.Detect l
   halted_by s' stop.DataCheck l = not_done s' stop.DataCheck
 
   -- "faults and 8 as ordered above, then 9, judged on the items really drawn"
-  abbrev pub course_by : (State → ℕ → Course) → Stepped → Listing → Course
+  abbrev pub course_by : (State → ℕ → Course) → Stepped → Option ℕ → Course
   course_by more (stepped.Goes s') l = gone_on more s' l
   course_by more (stepped.Stops s' e) l = halted_by s' e l
 

@@ -1,7 +1,6 @@
 -- The two calls together (02, C-21): "The two used together give what a run gives now."
-use Rattle.std.specs.Prelude.{ℕ, ◌<◌, ◌≡◌, true, List, [], length, take, get_or}
+use Rattle.std.specs.Prelude.{ℕ, ◌<◌, ◌≡◌, true, List, [], length, take, get_or, None, Some}
 use Rattle.unit_items.specs.Items.{listing, listed}
-use Rattle.unit_items.specs.declared.Listing.TheVariants.{Full, Held}
 use Rattle.unit_cursor.specs.Cursor.{Buffer}
 use Rattle.unit_head.specs.Head.{DisplayUnit, unit, with_state, buffer_of}
 use Rattle.unit_head.specs.declared.State.{State}
@@ -28,8 +27,8 @@ pub record NextTooMuch (u : DisplayUnit) (sights : List ℕ) (held : ℕ) (list 
   pub behind : State
   pub next : n < length sights
   pub gone : GoesOver u.words sights u.head.state n behind
-  pub fits : listing (length list) held (items_run (buffer_of u) (take n sights) u.head.state) ≡ Held k
-  pub full : listing (length list) k (items_drawn (buffer_of u) behind (get_or sights n 0)) ≡ Full
+  pub fits : listing (length list) held (items_run (buffer_of u) (take n sights) u.head.state) ≡ Some k
+  pub full : listing (length list) k (items_drawn (buffer_of u) behind (get_or sights n 0)) ≡ None
 
 -- 9 exactly there; "After 9 the unit still runs at that place", and the list has what the steps done have drawn
 pub record NineExactly (u : DisplayUnit) (sights list : List ℕ) (n k : ℕ) : Type 0 where
@@ -53,6 +52,6 @@ AllFits =
     (u : DisplayUnit) (sights list : List ℕ) (k : ℕ)
     → u.head.state.running ≡ true
     → all_sights sights ≡ true
-    → listing (length list) 0 (items_run (buffer_of u) sights u.head.state) ≡ Held k
+    → listing (length list) 0 (items_run (buffer_of u) sights u.head.state) ≡ Some k
     → pair_run u sights list
     ≡ run_end (unit_advance u sights).unit (with_items (unit_advance u sights).answer k) (listed list 0 (items_run (buffer_of u) sights u.head.state))

@@ -1,9 +1,12 @@
 -- What typing at the cursor never does, shown case by case. Assumes nothing.
+use Rattle.std.specs.Prelude.{Err, None, Ok, Option, Result, Some}
+use Rattle.typing_keyboard.specs.declared.Press.{Press}
+use Rattle.ground_refusals.specs.declared.Refusal.{Refusal}
 use Prim.Native.Nat.{ℕ, ◌%◌, ◌<◌}
 use native.Mathlib.Omega.{arith}
 use mathlib.Core.Path.{◌≡◌, refl, sym, ap, ◌∙◌}
 use mathlib.Core.Logic.{◌≢◌}
-use mathlib.Core.Bool.{Bool, true, false, cond, ◌&&◌, ◌||◌}
+use mathlib.Core.Bool.{Bool, true, false, false≢true, cond, ◌&&◌, ◌||◌}
 use mathlib.Core.List.{List}
 use lib.Dec.{ltb, eqb}
 use lib.ListN.{get_or}
@@ -12,7 +15,6 @@ use Rattle.ground_location.specs.Location.{data_of, good_of, proper_of, word_of,
 use Rattle.ground_location.proofs.Laws.{data_stored, good_stored, proper_stored}
 use Rattle.ground_setup.specs.Setup.{wrap_of}
 use Rattle.ground_setup.proofs.Laws.{wrap_twice}
-use Rattle.ground_orders.specs.declared.Mode.{Mode}
 use Rattle.ground_setup.specs.declared.Size.{Size}
 use Rattle.ground_refusals.specs.declared.Refusal.TheVariants.{UnknownKey}
 use Rattle.unit_cursor.specs.Cursor.{other_of}
@@ -21,11 +23,8 @@ use Rattle.typing_signs.specs.Signs.{byte_at, even_of, order_at}
 use Rattle.typing_seek.specs.Seek.{order_behind}
 use Rattle.typing_fields.specs.Fields.{field_by, field_of}
 use Rattle.typing_fields.specs.declared.Field.{Field}
-use Rattle.typing_fields.specs.declared.Field.TheVariants.{Outside, Inside}
 use Rattle.typing_keyboard.specs.Acts.{letter_of, sign_of, coded_of, numbered_of}
 use Rattle.typing_keyboard.specs.declared.Press.TheVariants as press
-use Rattle.typing_keyboard.specs.declared.Numbered.{Numbered}
-use Rattle.typing_keyboard.specs.declared.Numbered.TheVariants as numbered
 use Rattle.typing_keys.specs.Keys.{KeyValues, KeyEnd}
 use Rattle.unit_cursor.proofs.Alike.{alike_refl}
 use Rattle.theorem_typing.specs.Typing.{stored_by, HeadKept, RefusalChangesNothing, UnheardChangesNothing, HeadStays, OthersStay, SilentKey, ProtectedRefuses, GoodStays, ProperStays, NoOrderMade, OrdersStay}
@@ -38,7 +37,7 @@ pub record Typeable (code : ℕ) : Type 0 where
   pub no_2_a : code ≢ 0x2A
 
 coded_typeable : (n code : ℕ) → n < 256 → (t : Bool) → (letter_of n || sign_of n) ≡ t
-    → cond t (numbered.Of (press.Character n)) (numbered.Refused UnknownKey) ≡ numbered.Of (press.Character code) → Typeable code
+    → cond t (Ok (press.Character n)) (Err UnknownKey) ≡ Ok (press.Character code) → Typeable code
 unfolding letter_of sign_of
 coded_typeable n code h true a e =
     let same : n ≡ code = cc in
@@ -52,33 +51,33 @@ coded_typeable n code h true a e =
 coded_typeable n code h false a e = absurd (let z : ◌≡◌ {A = ℕ} 0 1 = cc in omega arith)
 
 -- the keys but those of characters
-abbrev moving : ℕ → Numbered
+abbrev moving : ℕ → Result Press Refusal
 moving n =
-    cond (eqb n 256) (numbered.Of press.Advance)
-    (cond (eqb n 257) (numbered.Of press.Backspace) (cond (eqb n 258) (numbered.Of press.Jump) (numbered.Refused UnknownKey)))
+    cond (eqb n 256) (Ok press.Advance)
+    (cond (eqb n 257) (Ok press.Backspace) (cond (eqb n 258) (Ok press.Jump) (Err UnknownKey)))
 
 no_character : (code : ℕ) (t u v : Bool)
-    → cond t (numbered.Of press.Advance) (cond u (numbered.Of press.Backspace) (cond v (numbered.Of press.Jump) (numbered.Refused UnknownKey)))
-    ≡ numbered.Of (press.Character code)
+    → cond t (Ok press.Advance) (cond u (Ok press.Backspace) (cond v (Ok press.Jump) (Err UnknownKey)))
+    ≡ Ok (press.Character code)
     → ⊥
 no_character code true u v e = let z : ◌≡◌ {A = ℕ} 0 1 = cc in omega arith
 no_character code false true v e = let z : ◌≡◌ {A = ℕ} 0 1 = cc in omega arith
 no_character code false false true e = let z : ◌≡◌ {A = ℕ} 0 1 = cc in omega arith
 no_character code false false false e = let z : ◌≡◌ {A = ℕ} 0 1 = cc in omega arith
 
-numbered_typeable : (n code : ℕ) (t : Bool) → ltb n 256 ≡ t → cond t (coded_of n) (moving n) ≡ numbered.Of (press.Character code) → Typeable code
+numbered_typeable : (n code : ℕ) (t : Bool) → ltb n 256 ≡ t → cond t (coded_of n) (moving n) ≡ Ok (press.Character code) → Typeable code
 numbered_typeable n code true l e = coded_typeable n code (ltb-true n 256 l) (letter_of n || sign_of n) refl e
 numbered_typeable n code false l e = absurd (no_character code (eqb n 256) (eqb n 257) (eqb n 258) e)
 
 -- the code of every character key is one that may be typed
-pub key_typeable : (n code : ℕ) → numbered_of n ≡ numbered.Of (press.Character code) → Typeable code
+pub key_typeable : (n code : ℕ) → numbered_of n ≡ Ok (press.Character code) → Typeable code
 unfolding numbered_of
 key_typeable n code e = numbered_typeable n code (ltb n 256) refl e
 
 -- a location in a field of characters is not the first byte of an order
-field_by_order : (f : Field) (m : Mode) (shut t : Bool) → cond t Outside f ≡ Inside m shut → t ≡ false
-field_by_order f m shut true e = absurd (let z : ◌≡◌ {A = ℕ} 0 1 = cc in omega arith)
-field_by_order f m shut false e = refl
+field_by_order : (p : Option Field) (f : Field) (t : Bool) → cond t None p ≡ Some f → t ≡ false
+field_by_order p f true e = absurd (let z : ◌≡◌ {A = ℕ} 0 1 = cc in omega arith)
+field_by_order p f false e = refl
 
 module _ (words : List ℕ) (s : Size) (at : ℕ) where
   -- an order is told by where the address stands in the buffer
@@ -94,11 +93,11 @@ module _ (words : List ℕ) (s : Size) (at : ℕ) where
       sym (order_there (even_of s at) same) ∙ o
   by_parity false e o = rw e
 
-  field_no_order : (m : Mode) (shut : Bool) → field_of words s at ≡ Inside m shut → order_at words s at ≡ false
+  field_no_order : (f : Field) → field_of words s at ≡ Some f → order_at words s at ≡ false
   unfolding field_of
-  field_no_order m shut e =
+  field_no_order f e =
       by_parity (eqb (wrap_of s at % 2) 0) refl
-      (field_by_order (field_by words s (order_behind words s at)) m shut (order_at words s (even_of s at)) e)
+      (field_by_order (field_by words s (order_behind words s at)) f (order_at words s (even_of s at)) e)
 
 and_none : (t : Bool) → (t && false) ≡ false
 and_none true = refl
@@ -148,14 +147,15 @@ silent_key u number =
     (λ at code to h e k. let z : ◌≡◌ {A = ℕ} 0 1 = cc in absurd (omega arith))
 
 pub protected_refuses : ProtectedRefuses
-protected_refuses u number at m cursor f =
+protected_refuses u number at f cursor in_field shut =
     each u number (λ (q : KeyEnd). stored_by q.answer ≡ false) (λ r. refl) refl (λ at' c. refl) (λ at' to c. refl)
     (λ at' code to h.
     let c = h.cursor in
     let a : at' ≡ at = cc in
-    let own = h.unprotected in
-    let g : field_of u.words (size_in u) at' ≡ Inside m true = rw a f in
-    cc)
+    let g : Some h.field ≡ Some f = sym h.here ∙ rw a in_field in
+    let same : h.field ≡ f = cc in
+    let own : h.field.shut ≡ true = ap (λ (x : Field). x.shut) same ∙ shut in
+    absurd (false≢true (sym h.unprotected ∙ own)))
 
 pub good_stays : GoodStays
 good_stays u number k =
@@ -210,4 +210,4 @@ orders_stay u number k =
     ap (λ (x : ℕ). eqb (x % 2) 0 && eqb (data_of (get_or u.words x 0)) 0x2A) e
     in
     ap (λ (b : Bool). eqb (wrap_of s k % 2) 0 && b) typed ∙ and_none (eqb (wrap_of s k % 2) 0)
-    ∙ sym (here ∙ field_no_order u.words s at h.mode false h.unprotected)))
+    ∙ sym (here ∙ field_no_order u.words s at h.field h.here)))

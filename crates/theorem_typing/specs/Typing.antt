@@ -1,16 +1,14 @@
 -- What typing at the cursor never does (02, C-13), for every unit and every number of a key.
-use Rattle.std.specs.Prelude.{ℕ, ◌≡◌, ◌≢◌, Bool, true, false, get_or}
+use Rattle.std.specs.Prelude.{ℕ, ◌≡◌, ◌≢◌, Bool, true, false, get_or, Some}
 use Rattle.ground_location.specs.Location.{data_of, good_of, proper_of, Unaltered}
 use Rattle.ground_setup.specs.Setup.{wrap_of}
-use Rattle.ground_orders.specs.declared.Mode.{Mode}
 use Rattle.unit_cursor.specs.Cursor.{other_of}
 use Rattle.unit_head.specs.declared.Head.{Head}
 use Rattle.unit_head.specs.Head.{DisplayUnit, size_in, buffer_of}
 use Rattle.typing_signs.specs.Signs.{order_at}
 use Rattle.typing_seek.specs.Seek.{cursor_in}
-use Rattle.typing_seek.specs.declared.Spot.TheVariants.{At}
 use Rattle.typing_fields.specs.Fields.{field_of}
-use Rattle.typing_fields.specs.declared.Field.TheVariants.{Inside}
+use Rattle.typing_fields.specs.declared.Field.{Field}
 use Rattle.typing_keys.specs.Keys.{KeyValues, unit_key}
 
 -- whether a character was stored
@@ -21,7 +19,7 @@ stored_by (KeyValues.heard stored to) = stored
 
 -- the cursor stands at this location
 abbrev pub CursorAt : DisplayUnit → ℕ → Type 0
-CursorAt u at = cursor_in (buffer_of u) (size_in u) ≡ At at
+CursorAt u at = cursor_in (buffer_of u) (size_in u) ≡ Some at
 
 -- the word of a location before a key, and after it
 abbrev pub word_before : DisplayUnit → ℕ → ℕ
@@ -66,9 +64,10 @@ SilentKey =
 -- "what protected characters refuse": in a protected field no character is stored
 abbrev pub ProtectedRefuses : Type 0
 ProtectedRefuses =
-    (u : DisplayUnit) (number at : ℕ) (m : Mode)
+    (u : DisplayUnit) (number at : ℕ) (f : Field)
     → CursorAt u at
-    → field_of u.words (size_in u) at ≡ Inside m true
+    → field_of u.words (size_in u) at ≡ Some f
+    → f.shut ≡ true
     → stored_by (unit_key u number).answer ≡ false
 
 -- "every store keeps that": no parity is spoilt, and no unused bit comes to be set

@@ -1,4 +1,5 @@
 -- Demand 1 shown: every call of a well-made unit gives a well-made unit. Assumes nothing.
+use Rattle.std.specs.Prelude.{Err, Ok, Result}
 use Prim.Native.Nat.{ℕ, ◌%◌, ◌<◌}
 use native.Mathlib.Omega.{arith}
 use mathlib.Core.Path.{◌≡◌, refl, sym, subst, ◌∙◌}
@@ -12,8 +13,6 @@ use Rattle.ground_words.proofs.Laws.{either_way}
 use Rattle.ground_setup.specs.Setup.{size_of, wrap_of, sized_of}
 use Rattle.ground_setup.specs.declared.Size.{Size}
 use Rattle.ground_setup.specs.declared.Setup.{Setup}
-use Rattle.ground_setup.specs.declared.Sized.{Sized}
-use Rattle.ground_setup.specs.declared.Sized.TheVariants as sized
 use Rattle.ground_setup.proofs.Laws.{positive, below}
 use Rattle.ground_orders.specs.declared.Mode.{Mode}
 use Rattle.ground_refusals.specs.declared.Refusal.{Refusal}
@@ -28,8 +27,6 @@ use Rattle.unit_codes.specs.declared.Command.TheVariants as command
 use Rattle.unit_codes.specs.declared.CommandRow.{CommandRow}
 use Rattle.unit_codes.specs.declared.Takes.{Takes}
 use Rattle.unit_codes.specs.declared.Takes.TheVariants.{Address, Start}
-use Rattle.unit_codes.specs.declared.Sent.{Sent}
-use Rattle.unit_codes.specs.declared.Sent.TheVariants as sent
 use Rattle.unit_codes.proofs.Rows.{RowFits, row_fits}
 use Rattle.unit_buffer.specs.Buffer.{bytes_written}
 use Rattle.unit_commands.specs.Commands.{CommandEnd, waiting_of, reset, read_by, done_of, allowed, rejected_of, tried_command, command_by, unit_command}
@@ -59,13 +56,13 @@ pub fresh_well : FreshWell
 fresh_well n houses s = fresh_with n s (record { words = replicate n fresh_word; cursor = cursors 0 }) (fresh_made n s (houses s))
 
 -- an address that fits is one of the buffer's
-near_inside : (count near : Bool) (q o : Refusal) → cond count (cond near sent.Fit (sent.Refused q)) (sent.Refused o) ≡ sent.Fit → near ≡ true
+near_inside : (count near : Bool) (q o : Refusal) → ◌≡◌ {A = Result (Unit {0}) Refusal} (cond count (cond near (Ok tt) (Err q)) (Err o)) (Ok tt) → near ≡ true
 near_inside true true q o e = refl
 near_inside true false q o e = let z : ◌≡◌ {A = ℕ} 0 1 = cc in absurd (omega arith)
 near_inside false near q o e = let z : ◌≡◌ {A = ℕ} 0 1 = cc in absurd (omega arith)
 
 -- and one to start at is even
-start_inside : (count odd near : Bool) (r q o : Refusal) → cond count (cond odd (sent.Refused r) (cond near sent.Fit (sent.Refused q))) (sent.Refused o) ≡ sent.Fit → (odd ≡ false) × (near ≡ true)
+start_inside : (count odd near : Bool) (r q o : Refusal) → ◌≡◌ {A = Result (Unit {0}) Refusal} (cond count (cond odd (Err r) (cond near (Ok tt) (Err q))) (Err o)) (Ok tt) → (odd ≡ false) × (near ≡ true)
 start_inside true true near r q o e = let z : ◌≡◌ {A = ℕ} 0 1 = cc in absurd (omega arith)
 start_inside true false near r q o e = (refl, near_inside true near q o e)
 start_inside false odd near r q o e = let z : ◌≡◌ {A = ℕ} 0 1 = cc in absurd (omega arith)
@@ -87,9 +84,9 @@ module _ (n : ℕ) (u : DisplayUnit) (m : WellMade n u) where
     dump_by z dump true false e f = m
     dump_by z dump false p e f = m
 
-    loaded_by_lem : (dump : List ℕ) (z : Sized) → WellMade n (loaded_by u dump z).unit
-    loaded_by_lem dump (sized.Refused r) = m
-    loaded_by_lem dump (sized.Of z) = dump_by z dump (eqb (length dump) (size_of z)) (all_proper dump) refl refl
+    loaded_by_lem : (dump : List ℕ) (z : Result Size Refusal) → WellMade n (loaded_by u dump z).unit
+    loaded_by_lem dump (Err r) = m
+    loaded_by_lem dump (Ok z) = dump_by z dump (eqb (length dump) (size_of z)) (all_proper dump) refl refl
 
   -- where advancing has come to
   after_well : (p : Progress) → AdvanceMade u.head.state p.state p.end → (p.state.running ≡ true → u.head.state.running ≡ true)
@@ -143,7 +140,7 @@ module _ (n : ℕ) (u : DisplayUnit) (m : WellMade n u) where
     read_well seek r = stood r m.buffer (read_inside s b seek at 0 room inside)
 
     -- each command, where its row is one of the table's and what was sent fits
-    done_well : (row : CommandRow) (k : Command) → RowFits row k → sent_by s row.takes bytes ≡ sent.Fit
+    done_well : (row : CommandRow) (k : Command) → RowFits row k → sent_by s row.takes bytes ≡ Ok tt
         → allowed row.running u.head.state.running ≡ true → Leaves (done_of u k bytes room)
     done_well row command.TestIo f e a = m
     done_well row command.WriteBuffer f e a =
@@ -154,7 +151,7 @@ module _ (n : ℕ) (u : DisplayUnit) (m : WellMade n u) where
     done_well row command.Sense f e a = kept
     done_well row command.ReadCursor f e a = read_well (any_set u.head.cursor) (stopped_by row.running u.head.state.running f a)
     done_well row command.SetAndStop f e a =
-        let fit : sent_by s Address bytes ≡ sent.Fit = subst (λ (t : Takes). sent_by s t bytes ≡ sent.Fit) f e in
+        let fit : sent_by s Address bytes ≡ Ok tt = subst (λ (t : Takes). sent_by s t bytes ≡ Ok tt) f e in
         stood refl m.buffer
         (ltb-true (address_in bytes) (size_of s) (near_inside (eqb (length bytes) 2) (ltb (address_in bytes) (size_of s)) FarStart WrongCount fit))
     done_well row command.Alarm f e a = kept
@@ -162,7 +159,7 @@ module _ (n : ℕ) (u : DisplayUnit) (m : WellMade n u) where
     done_well row command.ReadXy f e a = kept
     done_well row command.RemoveCursor f e a = keyed {b' = cleared_here at b} (cleared_made n s at b inside m.buffer)
     done_well row command.SetAndStart f e a =
-        let fit : sent_by s Start bytes ≡ sent.Fit = subst (λ (t : Takes). sent_by s t bytes ≡ sent.Fit) f e in
+        let fit : sent_by s Start bytes ≡ Ok tt = subst (λ (t : Takes). sent_by s t bytes ≡ Ok tt) f e in
         let told = start_inside (eqb (length bytes) 2) (eqb (address_in bytes % 2) 1) (ltb (address_in bytes) (size_of s)) OddStart FarStart WrongCount fit in
         let odd : address_in bytes % 2 ≡ 1 → ⊥ = eqb-false (address_in bytes % 2) 1 told.0 in
         record {
@@ -172,25 +169,25 @@ module _ (n : ℕ) (u : DisplayUnit) (m : WellMade n u) where
         }
     done_well row command.Invalid f e a = kept
 
-    allowed_well : (row : CommandRow) → RowFits row row.command → sent_by s row.takes bytes ≡ sent.Fit → (t : Bool) → allowed row.running u.head.state.running ≡ t
+    allowed_well : (row : CommandRow) → RowFits row row.command → sent_by s row.takes bytes ≡ Ok tt → (t : Bool) → allowed row.running u.head.state.running ≡ t
         → Leaves (cond t (done_of u row.command bytes room) (rejected_of u room))
     allowed_well row f e true a = done_well row row.command f e a
     allowed_well row f e false a = kept
 
   module _ (bytes room : List ℕ) (small : Bytes bytes) where
-    status_well : (row : CommandRow) → RowFits row row.command → sent_by s row.takes bytes ≡ sent.Fit → (t : Bool) → eqb u.head.status 0 ≡ t
+    status_well : (row : CommandRow) → RowFits row row.command → sent_by s row.takes bytes ≡ Ok tt → (t : Bool) → eqb u.head.status 0 ≡ t
         → Leaves (cond t (cond (allowed row.running u.head.state.running) (done_of u row.command bytes room) (rejected_of u room)) (waiting_of u row.command room))
     status_well row f e true z =
         allowed_well bytes room small (eqb-true u.head.status 0 z) row f e (allowed row.running u.head.state.running) refl
     status_well row f e false z = record { buffer = m.buffer; state = m.state; clear = λ r. refl }
 
-    tried_well : (row : CommandRow) → RowFits row row.command → sent_by s row.takes bytes ≡ sent.Fit → Leaves (tried_command u row bytes room)
+    tried_well : (row : CommandRow) → RowFits row row.command → sent_by s row.takes bytes ≡ Ok tt → Leaves (tried_command u row bytes room)
     unfolding tried_command
     tried_well row f e = status_well row f e (eqb u.head.status 0) refl
 
-    command_by_lem : (row : CommandRow) → RowFits row row.command → (fit : Sent) → sent_by s row.takes bytes ≡ fit → Leaves (command_by u row bytes room fit)
-    command_by_lem row f sent.Fit e = tried_well row f e
-    command_by_lem row f (sent.Refused r) e = m
+    command_by_lem : (row : CommandRow) → RowFits row row.command → (fit : Result (Unit {0}) Refusal) → sent_by s row.takes bytes ≡ fit → Leaves (command_by u row bytes room fit)
+    command_by_lem row f (Ok tt) e = tried_well row f e
+    command_by_lem row f (Err r) e = m
 
 pub load_well : LoadWell
 unfolding unit_load

@@ -1,4 +1,5 @@
 -- What a true number tells, shown. Assumes nothing.
+use Rattle.std.specs.Prelude.{None, Option, Some}
 use Prim.Native.Nat.{ℕ, ◌+◌, ◌<◌}
 use native.Mathlib.Omega.{arith}
 use mathlib.Core.Path.{◌≡◌, refl, sym, ap, ◌∙◌}
@@ -16,8 +17,6 @@ use Rattle.unit_head.specs.Head.{DisplayUnit, size_in, buffer_of}
 use Rattle.unit_commands.specs.Commands.{read_by}
 use Rattle.typing_seek.specs.Seek.{cursor_in}
 use Rattle.typing_seek.proofs.Laws.{Lowest, cursor_lowest}
-use Rattle.typing_seek.specs.declared.Spot.{Spot}
-use Rattle.typing_seek.specs.declared.Spot.TheVariants.{At, Nowhere}
 use Rattle.theorem_wellmade.specs.WellMade.{WellMade}
 use Rattle.theorem_wellmade.specs.Cursors.{AllBare, AnyTells, ReadsAlike, FindsAlike}
 
@@ -37,9 +36,9 @@ module _ (b : Buffer) (s : Size) (bare : (k : ℕ) → k < size_of s → cursor_
   read_alike a n [] h = refl
   read_alike a n (x ∷ room) h = rw (bare a h, read_alike (ahead_of s a 1) (n + 1) room (below s (wrap_of s a + 1)))
 
-  found_nowhere : (p : Spot) → Lowest b 0 (size_of s) p → Nowhere ≡ p
-  found_nowhere Nowhere l = refl
-  found_nowhere (At to) l =
+  found_nowhere : (p : Option ℕ) → Lowest b 0 (size_of s) p → None ≡ p
+  found_nowhere None l = refl
+  found_nowhere (Some to) l =
       let c = l.1.1.0 in
       let none = bare to (omega (arith, l.1.0)) in
       let z : ◌≡◌ {A = ℕ} 0 1 = cc in
@@ -64,7 +63,7 @@ module _ (n : ℕ) (u : DisplayUnit) (m : WellMade n u) where
       rw (read, given)
   reads_by room false e = refl
 
-  finds_by : (t : Bool) → eqb count 0 ≡ t → cond (not t) (cursor_in (buffer_of u) s) Nowhere ≡ cursor_in (buffer_of u) s
+  finds_by : (t : Bool) → eqb count 0 ≡ t → cond (not t) (cursor_in (buffer_of u) s) None ≡ cursor_in (buffer_of u) s
   finds_by true e = found_nowhere (buffer_of u) s (bare_of e) (cursor_in (buffer_of u) s) (cursor_lowest (buffer_of u) s)
   finds_by false e = refl
 

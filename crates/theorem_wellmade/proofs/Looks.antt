@@ -1,4 +1,6 @@
 -- A look at the words of a buffer finds bytes, and leads to addresses of the buffer. Assumes nothing.
+use Rattle.std.specs.Prelude.{None, Option, Some}
+use Rattle.ground_orders.specs.declared.Row.{Row}
 use Prim.Native.Nat.{ℕ, ◌+◌, ◌*◌, ◌%◌, ◌<◌}
 use native.Mathlib.Omega.{arith}
 use mathlib.Core.Path.{◌≡◌, refl}
@@ -17,8 +19,6 @@ use Rattle.ground_orders.specs.declared.Mode.{Mode}
 use Rattle.ground_orders.specs.declared.Mode.TheVariants as mode
 use Rattle.ground_orders.specs.declared.Follows.{Follows}
 use Rattle.ground_orders.specs.declared.Follows.TheVariants as follows
-use Rattle.ground_orders.specs.declared.Found.{Found}
-use Rattle.ground_orders.specs.declared.Found.TheVariants.{Order, Missing}
 use Rattle.unit_beam.specs.declared.Beam.{Beam}
 use Rattle.ground_groups.specs.declared.Group.{Group}
 use Rattle.ground_groups.specs.declared.Group.TheVariants as group
@@ -83,9 +83,9 @@ module _ (su : Setup) where
     order_made n follows.Transfer = on n
     order_made n follows.NoDetect = on n
 
-    found_made : (f : Found) → BegunMade s (found_by su a f)
-    found_made Missing = tt
-    found_made (Order r) = order_made r.length r.follows
+    found_made : (f : Option Row) → BegunMade s (found_by su a f)
+    found_made None = tt
+    found_made (Some r) = order_made r.length r.follows
 
     data_made : (b₁ b₂ : ℕ) (m : Mode) → b₂ < 256 → BegunMade s (data_by s a b₁ b₂ m)
     data_made b₁ b₂ m h = either_way (BegunMade s) (placing m) (h, on 4) (on 2)

@@ -1,4 +1,5 @@
 -- A step of a well-made state that runs, and several, leave a well-made state of the same setup. Assumes nothing.
+use Rattle.std.specs.Prelude.{None, Option, Some}
 use Prim.Native.Nat.{ℕ, ◌<◌}
 use mathlib.Core.Path.{◌≡◌, refl, sym, ◌∙◌}
 use mathlib.Core.Logic.{inl, inr}
@@ -19,7 +20,6 @@ use Rattle.validator_walks.proofs.Looks.{look_sound}
 use Rattle.ground_groups.specs.Groups.{words_group}
 use Rattle.unit_drawing.specs.Drawing.{strokes_of}
 use Rattle.unit_drawing.specs.declared.Hit.{Hit}
-use Rattle.unit_drawing.specs.declared.Hit.TheVariants.{Missed, At}
 use Rattle.unit_head.specs.declared.State.{State}
 use Rattle.unit_step.specs.declared.Stepped.{Stepped}
 use Rattle.unit_step.specs.declared.Stepped.TheVariants as stepped
@@ -56,17 +56,17 @@ module _ (s : State) (m : StateMade s) (runs : s.running ≡ true) where
 
   -- each place that the look leads to is one of the buffer
   module _ (l : Look) (sound : (q : Place) → Leads (step_by s.mode l) q → Proper s.setup.size q) (k : LookMade s.setup.size l) where
-    data_made : (next : ℕ) (h : Hit) → Proper s.setup.size (place next s.mode) → HitMade s.setup.size h → SteppedMade s (data_to s (beam_after (motion_at l s) s.beam) next h)
-    data_made next Missed n h =
+    data_made : (next : ℕ) (h : Option Hit) → Proper s.setup.size (place next s.mode) → HitMade s.setup.size h → SteppedMade s (data_to s (beam_after (motion_at l s) s.beam) next h)
+    data_made next None n h =
         (runs, record { same = refl; made = record { address = n.inside; even = λ r. n.even; beam = beam_after_made (motion_at l s) s.beam (motion_made s.setup.size l s.mode s.beam k) m.beam; pen = m.pen } })
-    data_made next (At a b) n h =
+    data_made next (Some x) n h =
         (refl, record { same = refl; made = record { address = h.0; even = λ r. absurd (false≢true r); beam = h.1; pen = detected_made s.pen m.pen } })
 
   either_made : (t next : ℕ) (b : Bool) → Proper s.setup.size (place t Idle) → Proper s.setup.size (place next Idle) → SteppedMade s (either_by s t next b)
   either_made t next true h k = goes h (transferred_made s.pen m.pen)
   either_made t next false h k = goes k m.pen
 
-  step_by_lem : (h : Hit) (l : Look) → HitMade s.setup.size h → LookMade s.setup.size l
+  step_by_lem : (h : Option Hit) (l : Look) → HitMade s.setup.size h → LookMade s.setup.size l
       → ((q : Place) → Leads (step_by s.mode l) q → Proper s.setup.size q)
       → SteppedMade s (step_to s (beam_after (motion_at l s) s.beam) h l)
   step_by_lem h (look.Fault f) k l sound = stops m.address

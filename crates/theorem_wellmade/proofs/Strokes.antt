@@ -1,4 +1,5 @@
 -- What a step draws stands at addresses of the buffer, and so does what a sight falls on; the beam behind it is within ten bits. Assumes nothing.
+use Rattle.std.specs.Prelude.{None, Option, Some}
 use Prim.Native.Nat.{ℕ, ◌+◌, ◌<◌}
 use mathlib.Core.Bool.{Bool, true, false, cond}
 use mathlib.Core.List.{List, [], ◌∷◌, ◌++◌}
@@ -15,7 +16,6 @@ use Rattle.unit_motion.specs.declared.Motion.{Motion}
 use Rattle.unit_motion.specs.declared.Motion.TheVariants.{Still, To, Codes}
 use Rattle.unit_drawing.specs.Drawing.{Stroke, stroke, character_at, cursor_at, trace_strokes, has_cursor, code_strokes, codes_strokes, strokes_of, item_address, falls, left, hit_in}
 use Rattle.unit_drawing.specs.declared.Hit.{Hit}
-use Rattle.unit_drawing.specs.declared.Hit.TheVariants.{Missed, At}
 use Rattle.ground_words.proofs.Laws.{either_way}
 use Rattle.theorem_wellmade.specs.WellMade.{BeamMade}
 use Rattle.theorem_wellmade.proofs.Beams.{MotionMade, after_code_made}
@@ -57,9 +57,9 @@ module _ (s : Size) where
       joined_made (code_strokes z x c0 beam (wrap_of s at)) (code_strokes z y c1 beam' then) (code_made z x c0 beam (wrap_of s at) b (below s at))
       (code_made z y c1 beam' then (after_code_made z x beam b) (below s (wrap_of s at + 1)))
 
-  abbrev pub HitMade : Hit → Type 0
-  HitMade Missed = Unit {0}
-  HitMade (At a b) = (a < size_of s) × BeamMade b
+  abbrev pub HitMade : Option Hit → Type 0
+  HitMade None = Unit {0}
+  HitMade (Some h) = (h.at < size_of s) × BeamMade h.end
 
   pub hit_made : (sight : ℕ) (ks : List Stroke) → StrokesMade ks → HitMade (hit_in sight ks)
   unfolding hit_in

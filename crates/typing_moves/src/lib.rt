@@ -8,7 +8,6 @@ ghost use Rattle.typing_moves.specs.Moves.{free_of, move_of, onward_of, rest_fro
 
 use ground_setup as setup;
 use ground_setup::Size;
-use typing_seek::Spot;
 use typing_signs as signs;
 
 // Which way the cursor goes.
@@ -21,18 +20,19 @@ pub enum Direction {
 }
 
 // A location, unless an order stands at an address.
-fn free(words: &[u16], size: Size, order: usize, to: usize) -> Spot
+fn free(words: &[u16], size: Size, order: usize, to: usize) -> Option<usize>
     ensures { result ≡ free_of words.now size order to }
 {
     if signs::order_at(words, size, order) {
-        Spot::Nowhere
+        None
     } else {
-        Spot::At(to)
+        Some(to)
     }
 }
 
 // One move: nowhere where the cursor stays.
-fn one_move(words: &[u16], size: Size, direction: Direction, at: usize) -> Spot
+// The direction is the key's, and rest goes on by it.
+fn one_move(words: &[u16], size: Size, direction: Direction, at: usize) -> Option<usize>
     ensures { result ≡ move_of words.now size direction at }
 {
     match direction {
@@ -50,44 +50,36 @@ fn one_move(words: &[u16], size: Size, direction: Direction, at: usize) -> Spot
 }
 
 // Where a cursor that has come to a location goes on to.
-fn onward(words: &[u16], size: Size, direction: Direction, at: usize) -> Spot
+fn onward(words: &[u16], size: Size, direction: Direction, at: usize) -> Option<usize>
     ensures { result ≡ onward_of words.now size direction at }
 {
     if signs::line_at(words, size, at) {
         one_move(words, size, direction, at)
     } else {
-        Spot::Nowhere
+        None
     }
 }
 
 // Where a cursor that has come to a location rests, in at most n moves.
 #[tactic(auto, using(crate::proofs::Turns::rest_none))]
-fn rest(words: &[u16], size: Size, direction: Direction, n: usize, at: usize) -> Spot
+fn rest(words: &[u16], size: Size, direction: Direction, n: usize, at: usize) -> Option<usize>
     ensures { result ≡ rest_from words.now size direction n at }
 {
-    let mut left = n;
     let mut a = at;
-    while 0 < left {
+    for _ in 0..n {
         match onward(words, size, direction, a) {
-            Spot::Nowhere => {
-                return Spot::At(a);
-            }
-            Spot::At(b) => {
-                a = b;
-            }
+            None => return Some(a),
+            Some(b) => a = b,
         }
-        left -= 1;
     }
-    Spot::Nowhere
+    None
 }
 
 // Where the cursor goes by advance or backspace: nowhere where it stays.
 #[tactic(auto, unfolding(crate::specs::Moves::goes_to))]
-pub fn go(words: &[u16], size: Size, direction: Direction, at: usize) -> Spot
+pub fn go(words: &[u16], size: Size, direction: Direction, at: usize) -> Option<usize>
     ensures { result ≡ goes_to words.now size direction at }
 {
-    match one_move(words, size, direction, at) {
-        Spot::Nowhere => Spot::Nowhere,
-        Spot::At(a) => rest(words, size, direction, setup::size_of(size), a),
-    }
+    let a = one_move(words, size, direction, at)?;
+    rest(words, size, direction, setup::size_of(size), a)
 }

@@ -1,4 +1,5 @@
 -- What the search for the cursor finds: the lowest one.
+use Rattle.std.specs.Prelude.{None, Option, Some}
 use Prim.Native.Nat.{ℕ, zero, suc, ◌+◌, ◌<◌, ◌≤◌}
 use native.Mathlib.Omega.{arith}
 use native.Mathlib.Decide.{ℕ_discrete}
@@ -7,8 +8,6 @@ use mathlib.Core.Bool.{Bool, true, false, cond}
 use Rattle.ground_setup.specs.Setup.{size_of}
 use Rattle.ground_setup.specs.declared.Size.{Size}
 use Rattle.unit_cursor.specs.Cursor.{Buffer, cursor_here}
-use Rattle.typing_seek.specs.declared.Spot.{Spot}
-use Rattle.typing_seek.specs.declared.Spot.TheVariants.{At, Nowhere}
 use Rattle.typing_seek.specs.Seek.{cursor_from, cursor_in}
 
 -- no cursor in a location
@@ -17,13 +16,13 @@ Bare b k = cursor_here b k ≡ false
 
 module _ (b : Buffer) where
   -- the first cursor among the n locations from a on
-  abbrev pub Lowest : ℕ → ℕ → Spot → Type 0
-  Lowest a n (At to) = (a ≤ to) × ((to < a + n) × ((cursor_here b to ≡ true) × ((k : ℕ) → a ≤ k → k < to → Bare b k)))
-  Lowest a n Nowhere = (k : ℕ) → a ≤ k → k < a + n → Bare b k
+  abbrev pub Lowest : ℕ → ℕ → Option ℕ → Type 0
+  Lowest a n (Some to) = (a ≤ to) × ((to < a + n) × ((cursor_here b to ≡ true) × ((k : ℕ) → a ≤ k → k < to → Bare b k)))
+  Lowest a n None = (k : ℕ) → a ≤ k → k < a + n → Bare b k
 
   -- one bare location more in front
-  bare_first : (a n : ℕ) (p : Spot) → Bare b a → Lowest (a + 1) n p → Lowest a (suc n) p
-  bare_first a n (At to) e l = (
+  bare_first : (a n : ℕ) (p : Option ℕ) → Bare b a → Lowest (a + 1) n p → Lowest a (suc n) p
+  bare_first a n (Some to) e l = (
     omega (arith, l.0),
     (
       omega (arith, l.1.0),
@@ -37,14 +36,14 @@ module _ (b : Buffer) where
       ),
     ),
   )
-  bare_first a n Nowhere e l = λ k h g.
+  bare_first a n None e l = λ k h g.
       elim (ℕ_discrete k a) [
         | yes q ↦ rw q e
         | no m ↦ l k (omega arith) (omega arith)
       ]
 
   by_bit : (n a : ℕ) (t : Bool) → cursor_here b a ≡ t → Lowest (a + 1) n (cursor_from b n (a + 1))
-      → Lowest a (suc n) (cond t (At a) (cursor_from b n (a + 1)))
+      → Lowest a (suc n) (cond t (Some a) (cursor_from b n (a + 1)))
   by_bit n a true e more = (omega arith, (omega arith, (e, λ k g l. absurd (omega arith))))
   by_bit n a false e more = bare_first a n (cursor_from b n (a + 1)) e more
 

@@ -56,11 +56,7 @@ pub fn even(size: Size, at: usize) -> usize
 pub fn order_at(words: &[u16], size: Size, at: usize) -> bool
     ensures { result ≡ order_at words.now size at }
 {
-    if setup::wrap(size, at) % 2 == 0 {
-        byte_at(words, size, at) == 0x2A
-    } else {
-        false
-    }
+    setup::wrap(size, at) % 2 == 0 && byte_at(words, size, at) == 0x2A
 }
 
 // Whether an address holds a new line.

@@ -1,6 +1,7 @@
 -- Advancing (02, C-21: "one advances the device"; 01, "The pen"): it "answers the steps done and why it ended", and lists nothing.
-use Rattle.std.specs.Prelude.{ℕ, Bool, true, false, cond, ◌&&◌, List, [], ◌∷◌, leb, length, take}
+use Rattle.std.specs.Prelude.{ℕ, Bool, true, false, cond, ◌&&◌, List, [], ◌∷◌, leb, length, take, Err, Ok, Result}
 use Rattle.ground_refusals.specs.Refusals.{refusal_number}
+use Rattle.ground_refusals.specs.declared.Refusal.{Refusal}
 use Rattle.ground_look.specs.declared.Fault.{Fault}
 use Rattle.ground_look.specs.declared.Fault.TheVariants as fault
 use Rattle.unit_head.specs.Head.{DisplayUnit, unit}
@@ -16,9 +17,7 @@ use Rattle.unit_step.specs.declared.Stepped.TheVariants as stepped
 use Rattle.unit_advance.specs.declared.End.{End}
 use Rattle.unit_advance.specs.declared.End.TheVariants as end
 use Rattle.unit_advance.specs.declared.Progress.{Progress}
-use Rattle.unit_advance.specs.declared.AdvanceReply.{AdvanceReply}
-use Rattle.unit_advance.specs.declared.AdvanceReply.TheVariants as reply
-use Rattle.unit_advance.specs.declared.HeadAdvanced.{HeadAdvanced}
+use Rattle.unit_advance.specs.declared.Advanced.{Advanced}
 
 -- "0 sights used up, 1 to 5 fault, 6 end order, 7 detect, 8 data check, .. 10 not running"; "Advancing never ends with 9" (02, C-21)
 abbrev pub fault_end : Fault → ℕ
@@ -94,18 +93,18 @@ pub data AdvanceValues : Type 0 where
   advanced : ℕ → ℕ → AdvanceValues
   refused : ℕ → AdvanceValues
 
-abbrev pub advance_values : AdvanceReply → AdvanceValues
-advance_values (reply.Done steps e) = AdvanceValues.advanced steps (end_number e)
-advance_values (reply.Refused r) = AdvanceValues.refused (refusal_number r)
+abbrev pub advance_values : Result Advanced Refusal → AdvanceValues
+advance_values (Ok a) = AdvanceValues.advanced a.steps (end_number a.end)
+advance_values (Err r) = AdvanceValues.refused (refusal_number r)
 
 -- what advancing leaves: the unit and the answer
 pub record AdvanceEnd : Type 0 where
   pub unit : DisplayUnit
   pub answer : AdvanceValues
 
--- the same of a call that gives the head beside its answer
-abbrev pub advance_ended : List ℕ → HeadAdvanced → AdvanceEnd
-advance_ended words r = record { unit = unit words r.head; answer = advance_values r.answer }
+-- the same of a call that leaves the words and the head, and answers
+abbrev pub advance_ended : List ℕ → Head → Result Advanced Refusal → AdvanceEnd
+advance_ended words head r = record { unit = unit words head; answer = advance_values r }
 
 abbrev pub advanced_by : DisplayUnit → Progress → AdvanceEnd
 advanced_by u p =

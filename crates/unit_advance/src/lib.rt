@@ -3,12 +3,11 @@
 // The contracts cite `specs/Advance.antt`.
 #![tactic(auto)]
 
-ghost use Rattle.std.specs.Prelude.{◌≡◌, cond, not, ◌&&◌, List, ℕ, ◌<◌, ◌≤◌, ltb, take};
+ghost use Rattle.std.specs.Prelude.{◌≡◌, not, ◌&&◌, List, ℕ, ◌<◌, ◌≤◌, Ok, take};
 ghost use Rattle.unit_head.specs.Head.{unit};
 ghost use Rattle.unit_step.specs.Run.{steps_at, is_idle};
-ghost use Rattle.unit_advance.specs.Advance.{fault_end, stop_number, end_number, progress_over, used_by, all_sights, stop_status, stop_sense, status_after, sense_after, advance_ended, advanced_by, gone_over, unit_advance, idle_advance};
+ghost use Rattle.unit_advance.specs.Advance.{stop_number, end_number, progress_over, used_by, all_sights, stop_status, stop_sense, status_after, sense_after, advance_ended, advanced_by, gone_over, unit_advance, idle_advance};
 
-use ground_look::Fault;
 use ground_orders::Mode;
 use ground_refusals::Refusal;
 use unit_head::{Head, Sense, State};
@@ -36,39 +35,21 @@ pub struct Progress {
     pub end: End,
 }
 
-// What advancing answers: the steps done and why it ended, or a refusal.
+// What advancing answers that is not refused: the steps done, and why it ended.
 #[derive(Clone, Copy)]
-pub enum AdvanceReply {
-    Done(usize, End),
-    Refused(Refusal),
+pub struct Advanced {
+    pub steps: usize,
+    pub end: End,
 }
 
-// The head after advancing, and the answer.
-#[derive(Clone, Copy)]
-pub struct HeadAdvanced {
-    pub head: Head,
-    pub answer: AdvanceReply,
-}
-
-// The number that 01 gives an end by a fault.
-fn fault_end(fault: Fault) -> u8
-    ensures { (result ≡ fault_end fault) × (result < 6) }
-{
-    match fault {
-        Fault::Unwritten => 1,
-        Fault::NoRow => 2,
-        Fault::OddTarget => 3,
-        Fault::FarTarget => 4,
-        Fault::OrderForY => 5,
-    }
-}
-
-// The number that 01 gives an end by a stop.
+// The number that 01 gives an end by a stop; that of a fault is the fault's own.
+// A function and no From: Stop is unit_step's.
+#[tactic(auto, using(crate::proofs::Faults::fault_ends))]
 fn stop_number(stop: Stop) -> u8
     ensures { (result ≡ stop_number stop) × (result < 9) }
 {
     match stop {
-        Stop::Fault(fault) => fault_end(fault),
+        Stop::Fault(fault) => u8::from(fault),
         Stop::EndOrder => 6,
         Stop::Detect => 7,
         Stop::DataCheck => 8,
@@ -76,17 +57,20 @@ fn stop_number(stop: Stop) -> u8
 }
 
 // The number that 01 gives an end.
-pub fn end_number(end: End) -> u8
-    ensures { (result ≡ end_number end) × (result < 11) }
-{
-    match end {
-        End::SightsUsed => 0,
-        End::Stopped(stop) => stop_number(stop),
-        End::NotRunning => 10,
+impl From<End> for u8 {
+    ghost from_gives = { λ end n. (n ≡ end_number end) × (n < 11) };
+
+    fn from(end: End) -> u8 {
+        match end {
+            End::SightsUsed => 0,
+            End::Stopped(stop) => stop_number(stop),
+            End::NotRunning => 10,
+        }
     }
 }
 
 // How many steps a stop adds to those done.
+// A quantity, not the number of a kind.
 fn steps_at(stop: Stop) -> usize
     ensures { (result ≡ steps_at stop) × (result ≤ 1) }
 {
@@ -102,7 +86,7 @@ fn steps_at(stop: Stop) -> usize
 fn is_over(idle: bool, mode: Mode) -> bool
     ensures { result ≡ (idle && not (is_idle mode)) }
 {
-    if idle { !step::is_idle(mode) } else { false }
+    idle && !step::is_idle(mode)
 }
 
 // Steps from a state on, one for each sight; only those from idle mode, if that is wanted.
@@ -112,14 +96,13 @@ fn advance_from(words: &[u16], sights: &[u8], start: State, idle: bool) -> Progr
 {
     let mut state = start;
     let mut i = 0;
+    // A while: a stretch takes several sights at once.
     while i < sights.len() {
-        let mode = state.mode;
-        if is_over(idle, mode) {
+        if is_over(idle, state.mode) {
             break;
         }
         let over = stretch::over(words, state, &sights[i..]);
-        let behind = over.state;
-        state = behind;
+        state = over.state;
         i += over.steps;
         if sights.len() <= i {
             break;
@@ -139,17 +122,10 @@ fn advance_from(words: &[u16], sights: &[u8], start: State, idle: bool) -> Progr
         }
     }
     Progress {
-        state: state,
+        state,
         steps: i,
         end: End::SightsUsed,
     }
-}
-
-// The greater of two sights.
-fn greater(a: u8, b: u8) -> u8
-    ensures { result ≡ cond (ltb a b) b a }
-{
-    if a < b { b } else { a }
 }
 
 // Whether no sight is above 2.
@@ -158,15 +134,14 @@ pub fn all_sights(sights: &[u8]) -> bool
     ensures { result ≡ all_sights sights.now }
 {
     let mut greatest = 0;
-    let mut i = 0;
-    while i < sights.len() {
-        greatest = greater(greatest, sights[i]);
-        i += 1;
+    for sight in sights {
+        greatest = greatest.max(*sight);
     }
     greatest <= 2
 }
 
 // The waiting status after a stop.
+// A match: status bits of 01, one arm to a stop.
 fn stop_status(stop: Stop, status: u8) -> u8
     ensures { result ≡ stop_status stop status }
 {
@@ -202,6 +177,7 @@ fn status_after(end: End, status: u8) -> u8
 }
 
 // The sense bits after an end.
+// Beside status_after: the same three cases over another value, and one generic function would need both stops' cases handed to it.
 fn sense_after(end: End, sense: Sense) -> Sense
     ensures { result ≡ sense_after end sense }
 {
@@ -212,36 +188,32 @@ fn sense_after(end: End, sense: Sense) -> Sense
     }
 }
 
-// The head where advancing has come to, and the answer.
-fn advanced_by(mut head: Head, progress: Progress) -> HeadAdvanced
-    ensures { (words : List ℕ) → advance_ended words result ≡ advanced_by (unit words head) progress }
+// Moves the head where advancing has come to, and answers.
+fn advanced_by(head: &mut Head, progress: Progress) -> Advanced
+    ensures { (words : List ℕ) → advance_ended words head.new (Ok result) ≡ advanced_by (unit words head.old) progress }
 {
-    let end = progress.end;
-    let state = progress.state;
-    let sense = head.sense;
-    head.state = state;
-    head.status = status_after(end, head.status);
-    head.sense = sense_after(end, sense);
-    HeadAdvanced {
-        head: head,
-        answer: AdvanceReply::Done(progress.steps, end),
+    head.state = progress.state;
+    head.status = status_after(progress.end, head.status);
+    head.sense = sense_after(progress.end, head.sense);
+    Advanced {
+        steps: progress.steps,
+        end: progress.end,
     }
 }
 
 // A unit that runs goes on over sights, over those of steps from idle mode if only they are wanted; another does nothing.
 #[tactic(auto, unfolding(crate::specs::Advance::gone_over))]
-fn go_over(words: &[u16], head: Head, sights: &[u8], idle: bool) -> HeadAdvanced
-    ensures { advance_ended words.now result ≡ gone_over (unit words.now head) (take (used_by idle words.now sights.now head.state) sights.now) }
+fn go_over(words: &[u16], head: &mut Head, sights: &[u8], idle: bool) -> Advanced
+    ensures { advance_ended words.now head.new (Ok result) ≡ gone_over (unit words.now head.old) (take (used_by idle words.now sights.now head.old.state) sights.now) }
 {
     let state = head.state;
     if state.running {
-        let progress = advance_from(words, sights, state, idle);
-        advanced_by(head, progress)
+        advanced_by(head, advance_from(words, sights, state, idle))
     } else {
         advanced_by(
             head,
             Progress {
-                state: state,
+                state,
                 steps: 0,
                 end: End::NotRunning,
             },
@@ -249,24 +221,21 @@ fn go_over(words: &[u16], head: Head, sights: &[u8], idle: bool) -> HeadAdvanced
     }
 }
 
-// Advances the unit, one step for each sight.
+// Advances the unit, one step for each sight, or refuses the sights and leaves it as it was.
 #[tactic(auto, unfolding(crate::specs::Advance::unit_advance))]
-pub fn advance(words: &[u16], head: Head, sights: &[u8]) -> HeadAdvanced
-    ensures { advance_ended words.now result ≡ unit_advance (unit words.now head) sights.now }
+pub fn advance(words: &[u16], head: &mut Head, sights: &[u8]) -> Result<Advanced, Refusal>
+    ensures { advance_ended words.now head.new result ≡ unit_advance (unit words.now head.old) sights.now }
 {
     if !all_sights(sights) {
-        return HeadAdvanced {
-            head: head,
-            answer: AdvanceReply::Refused(Refusal::UnknownSight),
-        };
+        return Err(Refusal::UnknownSight);
     }
-    go_over(words, head, sights, false)
+    Ok(go_over(words, head, sights, false))
 }
 
 // Advances the unit as long as its mode is idle, in which no step draws and no sight is looked at.
 #[tactic(auto, unfolding(crate::specs::Advance::idle_advance))]
-pub fn advance_idle(words: &[u16], head: Head, sights: &[u8]) -> HeadAdvanced
-    ensures { advance_ended words.now result ≡ idle_advance (unit words.now head) sights.now }
+pub fn advance_idle(words: &[u16], head: &mut Head, sights: &[u8]) -> Advanced
+    ensures { advance_ended words.now head.new (Ok result) ≡ idle_advance (unit words.now head.old) sights.now }
 {
     go_over(words, head, sights, true)
 }

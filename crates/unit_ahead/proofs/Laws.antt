@@ -1,4 +1,5 @@
 -- What a step of plain data draws, and a stretch as far as it is listed. Assumes nothing.
+use Rattle.std.specs.Prelude.{None, Some}
 use Prim.Native.Nat.{ℕ, ◌+◌, ◌≤◌, ◌<◌}
 use native.Mathlib.Omega.{arith}
 use mathlib.Core.Path.{◌≡◌, refl, sym, ap, subst, ◌∙◌}
@@ -22,7 +23,6 @@ use Rattle.unit_motion.specs.declared.Motion.TheVariants.{To, Codes}
 use Rattle.unit_motion.specs.declared.Moved.TheVariants.{Absolute, Increment}
 use Rattle.unit_motion.specs.declared.Trace.TheVariants as trace
 use Rattle.unit_items.specs.declared.Item.{Item}
-use Rattle.unit_items.specs.declared.Listing.TheVariants.{Full, Held}
 use Rattle.unit_items.specs.Items.{listing, listed}
 use Rattle.unit_items.proofs.Laws.{none_listing, none_listed, listed_on, length_listed, full_listed}
 use Rattle.unit_cursor.specs.Cursor.{Buffer, buffer}
@@ -98,7 +98,7 @@ pub record AheadOn (b : Buffer) (sights : List ℕ) (s : State) (held : ℕ) (ou
   -- the steps go on over plain data
   pub covered : Covered b.words sights s i x
   -- what they draw is listed
-  pub holds : listing (length out) held (items_run b (take i sights) s) ≡ Held n
+  pub holds : listing (length out) held (items_run b (take i sights) s) ≡ Some n
   pub puts : out' ≡ listed out held (items_run b (take i sights) s)
 
 module _ (b : Buffer) (sights : List ℕ) (s : State) (held : ℕ) (out : List ℕ) where
@@ -120,11 +120,11 @@ module _ (b : Buffer) (sights : List ℕ) (s : State) (held : ℕ) (out : List �
     on_long = ap length o.puts ∙ length_listed out held (items_run b (take i sights) s)
 
     -- a list that is full stays as it was
-    pub on_full : (is : List Item) (out'' : List ℕ) → listing (length out') n is ≡ Full → out'' ≡ listed out' n is → AheadOn b sights s held out i x n out''
+    pub on_full : (is : List Item) (out'' : List ℕ) → listing (length out') n is ≡ None → out'' ≡ listed out' n is → AheadOn b sights s held out i x n out''
     on_full is out'' e f = record { covered = o.covered; holds = o.holds; puts = f ∙ full_listed out' n is e ∙ o.puts }
 
     pub on_more : i < length sights → (y : State) → Covered b.words sights s (i + 1) y → (m : ℕ) (out'' : List ℕ)
-        → listing (length out') n (items_drawn b x (get_or sights i 0)) ≡ Held m → out'' ≡ listed out' n (items_drawn b x (get_or sights i 0))
+        → listing (length out') n (items_drawn b x (get_or sights i 0)) ≡ Some m → out'' ≡ listed out' n (items_drawn b x (get_or sights i 0))
         → AheadOn b sights s held out (i + 1) y m out''
     on_more h y c m out'' e f =
         let all = items_more b.words sights s i x o.covered.gone h b refl in
@@ -164,7 +164,7 @@ module _ (words : List ℕ) (k : Cursor) (sights : List ℕ) (s : State) (held :
       -- by the motion of the data: the items that are drawn are listed, and the beam is where they leave it
       step_on : (m : Motion) → motion_here ≡ m → (is : List Item)
           → upto 0 (strokes_of m x.beam (cursor_of (get_or words x.address 0)) (cursor_of (get_or words (x.address + 1) 0)) s.setup.size x.address) ≡ is
-          → (held' : ℕ) (out'' : List ℕ) → listing (length out') n is ≡ Held held' → out'' ≡ listed out' n is
+          → (held' : ℕ) (out'' : List ℕ) → listing (length out') n is ≡ Some held' → out'' ≡ listed out' n is
           → AheadOn (buffer words k) sights s held out (i + 1) (beamed x (x.address + span_of (placing s.mode)) (beam_after m x.beam)) held' out''
       step_on m e is d held' out'' f g =
           let drawn : items_drawn (buffer words k) x (get_or sights i 0) ≡ is =
@@ -178,7 +178,7 @@ module _ (words : List ℕ) (k : Cursor) (sights : List ℕ) (s : State) (held :
 
       -- coordinates or increments
       pub on_trace : (vector : Bool) → Traces s.mode vector → (held' : ℕ) (out'' : List ℕ)
-          → listing (length out') n (cond (not (blanked_of (placing s.mode) first (byte 1))) (trace_item vector x.beam led.to led.off x.address ∷ []) []) ≡ Held held'
+          → listing (length out') n (cond (not (blanked_of (placing s.mode) first (byte 1))) (trace_item vector x.beam led.to led.off x.address ∷ []) []) ≡ Some held'
           → out'' ≡ listed out' n (cond (not (blanked_of (placing s.mode) first (byte 1))) (trace_item vector x.beam led.to led.off x.address ∷ []) [])
           → AheadOn (buffer words k) sights s held out (i + 1) (beamed x (x.address + span_of (placing s.mode)) led.to) held' out''
       unfolding strokes_of beam_after
@@ -191,7 +191,7 @@ module _ (words : List ℕ) (k : Cursor) (sights : List ℕ) (s : State) (held :
 
       -- codes
       pub on_codes : (letters : CharacterSize) → Writes s.mode letters → (held' : ℕ) (out'' : List ℕ)
-          → listing (length out') n (upto 0 (codes_strokes letters first (byte 1) (cursor_of (get_or words x.address 0)) (cursor_of (get_or words (x.address + 1) 0)) x.beam x.address (x.address + 1))) ≡ Held held'
+          → listing (length out') n (upto 0 (codes_strokes letters first (byte 1) (cursor_of (get_or words x.address 0)) (cursor_of (get_or words (x.address + 1) 0)) x.beam x.address (x.address + 1))) ≡ Some held'
           → out'' ≡ listed out' n (upto 0 (codes_strokes letters first (byte 1) (cursor_of (get_or words x.address 0)) (cursor_of (get_or words (x.address + 1) 0)) x.beam x.address (x.address + 1)))
           → AheadOn (buffer words k) sights s held out (i + 1) (beamed x (x.address + 2) (after_code letters (byte 1) (after_code letters first x.beam))) held' out''
       unfolding strokes_of beam_after

@@ -1,5 +1,5 @@
 -- A stretch of plain data, listed: what the steps draw that stand ahead, put behind the items that the list holds.
-use Rattle.std.specs.Prelude.{ℕ, ◌≡◌, Bool, false, cond, List, length, take}
+use Rattle.std.specs.Prelude.{ℕ, ◌≡◌, Bool, false, cond, List, length, take, Some}
 use Rattle.ground_look.specs.Look.{placing}
 use Rattle.ground_orders.specs.declared.Mode.{Mode}
 use Rattle.unit_beam.specs.Beam.{placed, shifted, blanked_place, blanked_step}
@@ -13,7 +13,6 @@ use Rattle.unit_motion.specs.declared.Trace.TheVariants as trace
 use Rattle.unit_drawing.specs.Drawing.{point_at, vector_at}
 use Rattle.unit_items.specs.Items.{listing, listed}
 use Rattle.unit_items.specs.declared.Item.{Item}
-use Rattle.unit_items.specs.declared.Listing.TheVariants.{Held}
 use Rattle.unit_cursor.specs.Cursor.{Buffer}
 use Rattle.unit_head.specs.declared.State.{State}
 use Rattle.unit_step.specs.Run.{items_run, GoesOver}
@@ -45,5 +44,5 @@ pub record Writes (m : Mode) (letters : CharacterSize) : Type 0 where
 pub record ListsAhead (b : Buffer) (sights : List ℕ) (s : State) (held : ℕ) (out : List ℕ) (r : AheadListed) (out' : List ℕ) : Type 0 where
   pub behind : State
   pub gone : GoesOver b.words sights s r.steps behind
-  pub holds : listing (length out) held (items_run b (take r.steps sights) s) ≡ Held r.held
+  pub holds : listing (length out) held (items_run b (take r.steps sights) s) ≡ Some r.held
   pub puts : out' ≡ listed out held (items_run b (take r.steps sights) s)

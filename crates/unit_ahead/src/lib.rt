@@ -9,7 +9,6 @@ ghost use Rattle.unit_cursor.specs.Cursor.{buffer};
 ghost use Rattle.unit_cursor.specs.declared.Cursor.{Cursor};
 ghost use Rattle.unit_drawing.specs.Drawing.{code_strokes, codes_strokes, upto};
 ghost use Rattle.unit_items.specs.Items.{listing, listed};
-ghost use Rattle.unit_items.specs.declared.Listing.TheVariants.{Held};
 ghost use Rattle.unit_ahead.specs.Ahead.{Traces, Writes, led_to, blanked_of, trace_item, ListsAhead};
 
 use ground_location as location;
@@ -17,12 +16,10 @@ use ground_look as look;
 use ground_orders::Mode;
 use unit_beam as beam;
 use unit_beam::{Beam, CharacterSize, Shift};
-use unit_cursor as cursor;
 use unit_cursor::Cursor;
 use unit_drawing as drawing;
 use unit_head::State;
 use unit_items as items;
-use unit_items::Listing;
 use unit_motion as motion;
 use unit_pen as pen;
 use unit_plain as plain;
@@ -35,6 +32,7 @@ pub struct AheadListed {
 }
 
 // Where coordinates or increments take the beam, and whether they left the screen.
+// A flag: it is what is_placing tells of the mode.
 fn led_to(placing: bool, a: u8, b: u8, c: u8, d: u8, beam: Beam) -> Shift
     ensures { result ≡ led_to «placing» a b c d beam }
 {
@@ -49,6 +47,7 @@ fn led_to(placing: bool, a: u8, b: u8, c: u8, d: u8, beam: Beam) -> Shift
 }
 
 // Whether coordinates or increments are blanked.
+// A flag: it is what is_placing tells of the mode.
 fn is_blanked(placing: bool, a: u8, b: u8) -> bool
     ensures { result ≡ blanked_of «placing» a b }
 {
@@ -60,6 +59,7 @@ fn is_blanked(placing: bool, a: u8, b: u8) -> bool
 }
 
 // Lists what coordinates or increments draw.
+// A flag and no closure: Traces and trace_item of specs/ speak of it.
 fn list_trace(
     vector: bool,
     blanked: bool,
@@ -69,7 +69,7 @@ fn list_trace(
     at: u16,
     held: usize,
     out: &mut [u16],
-) -> Listing
+) -> Option<usize>
     ensures { (result ≡ listing (length out.old) held (cond (not blanked) (trace_item vector from to off at ∷ []) [])) × (out.new ≡ listed out.old held (cond (not blanked) (trace_item vector from to off at ∷ []) [])) }
 {
     if vector {
@@ -92,55 +92,54 @@ fn list_traces(
     requires { Traces start.mode vector }
     ensures { (cursor : Cursor) → ListsAhead (buffer words.now cursor) sights.now start held out.old result out.new }
 {
-    let setup = start.setup;
-    let size = setup.size;
     let mode = start.mode;
-    let pen = start.pen;
-    let end = plain::clear_below(words, size);
     let placing = look::is_placing(mode);
     let span = plain::span(placing);
+    let end = plain::clear_below(words, start.setup.size);
     let mut state = start;
     let mut n = held;
-    let mut i = 0;
-    while i < sights.len() {
+    for (i, sight) in sights.iter().enumerate() {
         let at = state.address;
         if end <= at {
-            break;
+            return AheadListed { steps: i, held: n };
         }
-        if pen::seen_of(pen, sights[i]) != 0 {
-            break;
+        if pen::seen_of(start.pen, *sight) != 0 {
+            return AheadListed { steps: i, held: n };
         }
         let a = words[at];
         let b = words[at + 1];
         let c = words[at + 2];
         let d = words[at + 3];
         if !plain::is_data(placing, a, b, c, d) {
-            break;
+            return AheadListed { steps: i, held: n };
         }
         let x = location::data_of(a);
         let y = location::data_of(b);
-        let beam = state.beam;
         let shift = led_to(
             placing,
             x,
             y,
             location::data_of(c),
             location::data_of(d),
-            beam,
+            state.beam,
         );
         let to = shift.to;
         let off = shift.off;
         let blanked = is_blanked(placing, x, y);
-        let Listing::Held(more) = list_trace(vector, blanked, beam, to, off, at as u16, n, out)
-        else {
-            break;
+        let Some(more) = list_trace(vector, blanked, state.beam, to, off, at as u16, n, out) else {
+            return AheadListed { steps: i, held: n };
         };
         n = more;
-        state.beam = to;
-        state.address = at + span;
-        i += 1;
+        state = State {
+            address: at + span,
+            beam: to,
+            ..state
+        };
     }
-    AheadListed { steps: i, held: n }
+    AheadListed {
+        steps: sights.len(),
+        held: n,
+    }
 }
 
 // Lists what a code draws: its character, then its cursor.
@@ -155,15 +154,14 @@ fn list_code(
     out: &mut [u16],
 ) -> usize
     requires { held + 2 ≤ length out.old / 8 }
-    ensures { (listing (length out.old) held (upto 0 (code_strokes size code marked beam at)) ≡ Held result) × (out.new ≡ listed out.old held (upto 0 (code_strokes size code marked beam at))) }
+    ensures { (listing (length out.old) held (upto 0 (code_strokes size code marked beam at)) ≡ Some result) × (out.new ≡ listed out.old held (upto 0 (code_strokes size code marked beam at))) }
 {
     let character = drawing::character(size, code, beam, at);
-    let Listing::Held(n) = items::list_where(out, held, motion::is_drawing(code), character) else {
+    let Some(n) = items::list_where(out, held, motion::is_drawing(code), character) else {
         return held;
     };
     let shown = drawing::cursor(size, code, beam, at);
-    let Listing::Held(m) = items::list_where(out, n, drawing::has_cursor(marked, code), shown)
-    else {
+    let Some(m) = items::list_where(out, n, drawing::has_cursor(marked, code), shown) else {
         return n;
     };
     m
@@ -184,7 +182,7 @@ fn list_pair(
     out: &mut [u16],
 ) -> usize
     requires { held + 4 ≤ length out.old / 8 }
-    ensures { (listing (length out.old) held (upto 0 (codes_strokes size a b c0 c1 beam at next)) ≡ Held result) × (out.new ≡ listed out.old held (upto 0 (codes_strokes size a b c0 c1 beam at next))) }
+    ensures { (listing (length out.old) held (upto 0 (codes_strokes size a b c0 c1 beam at next)) ≡ Some result) × (out.new ≡ listed out.old held (upto 0 (codes_strokes size a b c0 c1 beam at next))) }
 {
     let n = list_code(size, a, c0, beam, at, held, out);
     let end = motion::after_code(size, a, beam);
@@ -195,14 +193,11 @@ fn list_pair(
 fn is_tight(held: usize, room: usize) -> bool
     ensures { result ≡ ltb room (held + 4) }
 {
-    if 4 <= room {
-        if held <= room - 4 { false } else { true }
-    } else {
-        true
-    }
+    room < 4 || room - 4 < held
 }
 
 // Lists codes ahead.
+// Beside list_traces: other room, other words and the cursor; of the loop only its ends are the same.
 #[tactic(auto, using(ground_setup::proofs::Laws::sane, crate::proofs::Laws::on_none, crate::proofs::Laws::on_done, crate::proofs::Laws::on_long, crate::proofs::Laws::on_codes))]
 fn list_codes(
     words: &[u16],
@@ -216,33 +211,29 @@ fn list_codes(
     requires { Writes start.mode letters }
     ensures { ListsAhead (buffer words.now cursor) sights.now start held out.old result out.new }
 {
-    let setup = start.setup;
-    let size = setup.size;
-    let pen = start.pen;
-    let end = plain::clear_below(words, size);
+    let end = plain::clear_below(words, start.setup.size);
     let mut state = start;
     let mut n = held;
-    let mut i = 0;
-    while i < sights.len() {
+    for (i, sight) in sights.iter().enumerate() {
         let at = state.address;
         if end <= at {
-            break;
+            return AheadListed { steps: i, held: n };
         }
         if is_tight(n, out.len() / 8) {
-            break;
+            return AheadListed { steps: i, held: n };
         }
-        if pen::seen_of(pen, sights[i]) != 0 {
-            break;
+        if pen::seen_of(start.pen, *sight) != 0 {
+            return AheadListed { steps: i, held: n };
         }
         let a = words[at];
         let b = words[at + 1];
         if !plain::is_data(false, a, b, 0, 0) {
-            break;
+            return AheadListed { steps: i, held: n };
         }
         let x = location::data_of(a);
         let y = location::data_of(b);
-        let c0 = cursor::is_here(words, cursor, at);
-        let c1 = cursor::is_here(words, cursor, at + 1);
+        let c0 = cursor.is_here(words, at);
+        let c1 = cursor.is_here(words, at + 1);
         let beam = state.beam;
         n = list_pair(
             letters,
@@ -256,11 +247,16 @@ fn list_codes(
             n,
             out,
         );
-        state.beam = motion::after_codes(letters, x, y, beam);
-        state.address = at + 2;
-        i += 1;
+        state = State {
+            address: at + 2,
+            beam: motion::after_codes(letters, x, y, beam),
+            ..state
+        };
     }
-    AheadListed { steps: i, held: n }
+    AheadListed {
+        steps: sights.len(),
+        held: n,
+    }
 }
 
 // Lists the stretch of plain data ahead of a state, over sights.
@@ -275,12 +271,8 @@ pub fn list_ahead(
 ) -> AheadListed
     ensures { ListsAhead (buffer words.now cursor) sights.now state held out.old result out.new }
 {
-    let mode = state.mode;
-    match mode {
-        Mode::Idle => AheadListed {
-            steps: 0,
-            held: held,
-        },
+    match state.mode {
+        Mode::Idle => AheadListed { steps: 0, held },
         Mode::Point => list_traces(words, state, false, sights, held, out),
         Mode::Vector => list_traces(words, state, true, sights, held, out),
         Mode::IncrementalPoint => list_traces(words, state, false, sights, held, out),

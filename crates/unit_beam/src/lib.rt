@@ -50,7 +50,7 @@ fn ten_bits(c: u16) -> u16
 fn absolute_of(high: u8, low: u8) -> u16
     ensures { result ≡ absolute high low }
 {
-    ((high % 16) as u16 * 256 + low as u16) / 4
+    (u16::from(high % 16) * 256 + u16::from(low)) / 4
 }
 
 // The beam at the absolute coordinates of four bytes.
@@ -77,7 +77,7 @@ pub fn blanked_place(xh: u8) -> bool
 fn exact_sum(c: u16, b: u8) -> u16
     ensures { pos result ≡ exact_sum c b +ℤ pos 1024 }
 {
-    ten_bits(c) + (b as u16 / 2 + 64) % 128 + 960
+    ten_bits(c) + (u16::from(b) / 2 + 64) % 128 + 960
 }
 
 // A coordinate and an increment added.
@@ -101,7 +101,7 @@ pub fn step(beam: Beam, dx: u8, dy: u8) -> Shift
     let y = sum_of(beam.y, dy);
     Shift {
         to: Beam { x: x.cut, y: y.cut },
-        off: x.off | y.off,
+        off: x.off || y.off,
     }
 }
 
@@ -114,12 +114,13 @@ pub fn blanked_step(dy: u8) -> bool
 }
 
 // A distance of basic characters as it is in a size.
+// The size is what distances depend on (000).
 fn spaced_in(size: CharacterSize, basic: u8) -> u16
     ensures { (result ≡ spaced size basic) × (result ≤ basic * 3 / 2) }
 {
     match size {
-        CharacterSize::Basic => basic as u16,
-        CharacterSize::Large => basic as u16 * 3 / 2,
+        CharacterSize::Basic => u16::from(basic),
+        CharacterSize::Large => u16::from(basic) * 3 / 2,
     }
 }
 
@@ -164,7 +165,7 @@ pub fn after_character(size: CharacterSize, beam: Beam) -> Beam
     let x = ten_bits(beam.x) + across_of(size);
     if x <= 1023 {
         Beam {
-            x: x,
+            x,
             y: ten_bits(beam.y),
         }
     } else {

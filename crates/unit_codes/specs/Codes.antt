@@ -1,16 +1,15 @@
 -- The codes of commands (01, "Status, sense and commands"): which command a code is, what is sent with it, and whether it is done while
 -- the buffer runs.
-use Rattle.std.specs.Prelude.{ℕ, ◌+◌, ◌*◌, ◌%◌, Bool, true, false, cond, List, eqb, ltb, length, get_or}
+use Rattle.std.specs.Prelude.{ℕ, ◌+◌, ◌*◌, ◌%◌, Bool, true, false, cond, List, eqb, ltb, length, get_or, Err, Ok, Result}
 use Rattle.ground_setup.specs.Setup.{size_of}
 use Rattle.ground_setup.specs.declared.Size.{Size}
+use Rattle.ground_refusals.specs.declared.Refusal.{Refusal}
 use Rattle.ground_refusals.specs.declared.Refusal.TheVariants.{OddStart, FarStart, WrongCount}
 use Rattle.unit_codes.specs.declared.Command.{Command}
 use Rattle.unit_codes.specs.declared.Command.TheVariants.{TestIo, WriteBuffer, ReadBuffer, NoOperation, Sense, ReadCursor, SetAndStop, Alarm, InsertCursor, ReadXy, RemoveCursor, SetAndStart, Invalid}
 use Rattle.unit_codes.specs.declared.Takes.{Takes}
 use Rattle.unit_codes.specs.declared.Takes.TheVariants.{Nothing, Bytes, Address, Start}
 use Rattle.unit_codes.specs.declared.CommandRow.{CommandRow}
-use Rattle.unit_codes.specs.declared.Sent.{Sent}
-use Rattle.unit_codes.specs.declared.Sent.TheVariants.{Fit, Refused}
 
 abbrev pub command_row : Command → Takes → Bool → CommandRow
 command_row c t running = record { command = c; takes = t; running = running }
@@ -37,20 +36,20 @@ abbrev pub address_in : List ℕ → ℕ
 address_in sent = get_or sent 0 0 * 0x100 + get_or sent 1 0
 
 -- "4 .. any set buffer address, is size or more"
-abbrev pub near_fit : Size → ℕ → Sent
-near_fit s a = cond (ltb a (size_of s)) Fit (Refused FarStart)
+abbrev pub near_fit : Size → ℕ → Result (Unit {0}) Refusal
+near_fit s a = cond (ltb a (size_of s)) (Ok tt) (Err FarStart)
 
 -- "3 start is odd, also in Set Buffer Address and Start"
-abbrev pub start_fit : Size → ℕ → Sent
-start_fit s a = cond (eqb (a % 2) 1) (Refused OddStart) (near_fit s a)
+abbrev pub start_fit : Size → ℕ → Result (Unit {0}) Refusal
+start_fit s a = cond (eqb (a % 2) 1) (Err OddStart) (near_fit s a)
 
 -- "10 .. data sent with a command are not its fixed count"
-abbrev pub count_fit : ℕ → List ℕ → Sent → Sent
-count_fit n bytes fit = cond (eqb (length bytes) n) fit (Refused WrongCount)
+abbrev pub count_fit : ℕ → List ℕ → Result (Unit {0}) Refusal → Result (Unit {0}) Refusal
+count_fit n bytes fit = cond (eqb (length bytes) n) fit (Err WrongCount)
 
 -- "10, 3, 4 for commands whose code isn't rejected"
-abbrev pub sent_by : Size → Takes → List ℕ → Sent
-sent_by s Nothing bytes = count_fit 0 bytes Fit
-sent_by s Bytes bytes = Fit
+abbrev pub sent_by : Size → Takes → List ℕ → Result (Unit {0}) Refusal
+sent_by s Nothing bytes = count_fit 0 bytes (Ok tt)
+sent_by s Bytes bytes = Ok tt
 sent_by s Address bytes = count_fit 2 bytes (near_fit s (address_in bytes))
 sent_by s Start bytes = count_fit 2 bytes (start_fit s (address_in bytes))

@@ -3,7 +3,7 @@
 // The contracts cite `specs/Codes.antt`.
 #![tactic(auto)]
 
-ghost use Rattle.std.specs.Prelude.{◌≡◌, ◌+◌, ◌*◌, ◌<◌, get_or};
+ghost use Rattle.std.specs.Prelude.{◌≡◌, ◌<◌, Ok, get_or};
 ghost use Rattle.unit_codes.specs.Codes.{command_row, row_of, address_in, near_fit, start_fit, count_fit, sent_by};
 
 use ground_refusals::Refusal;
@@ -11,7 +11,7 @@ use ground_setup as setup;
 use ground_setup::Size;
 
 // The twelve commands, and every code that is none.
-#[derive(Clone, Copy)]
+#[derive(Clone, Copy, PartialEq, Eq)]
 pub enum Command {
     TestIo,
     WriteBuffer,
@@ -49,21 +49,14 @@ pub struct CommandRow {
     pub running: bool,
 }
 
-// Whether what was sent with a command fits it.
-#[derive(Clone, Copy)]
-pub enum Sent {
-    Fit,
-    Refused(Refusal),
-}
-
 // A row.
 fn row(command: Command, takes: Takes, running: bool) -> CommandRow
     ensures { result ≡ command_row command takes running }
 {
     CommandRow {
-        command: command,
-        takes: takes,
-        running: running,
+        command,
+        takes,
+        running,
     }
 }
 
@@ -85,6 +78,7 @@ pub fn row_of(code: u8) -> CommandRow
         0x12 => row(Command::ReadXy, Takes::Nothing, false),
         0x1F => row(Command::RemoveCursor, Takes::Nothing, false),
         0x27 => row(Command::SetAndStart, Takes::Start, true),
+        // Every code that is none, by ranges: which they are stands here.
         0x05 | 0x08..=0x0A | 0x0C..=0x0E | 0x10..=0x11 | 0x13..=0x1E | 0x20..=0x26 | 0x28..=0xFF =>
             { row(Command::Invalid, Takes::Bytes, true) }
     }
@@ -94,64 +88,63 @@ pub fn row_of(code: u8) -> CommandRow
 fn sent_at(bytes: &[u8], i: usize) -> u8
     ensures { result ≡ get_or bytes.now i 0 }
 {
-    if i < bytes.len() { bytes[i] } else { 0 }
-}
-
-// The address of two bytes, high byte first.
-fn address_of(high: u8, low: u8) -> usize
-    ensures { (result ≡ high * 0x100 + low) × (result < 65536) }
-{
-    (high as usize) * 0x100 + (low as usize)
+    bytes.get(i).copied().unwrap_or(0)
 }
 
 // The address that was sent.
 pub fn address_in(bytes: &[u8]) -> usize
     ensures { (result ≡ address_in bytes.now) × (result < 65536) }
 {
-    address_of(sent_at(bytes, 0), sent_at(bytes, 1))
+    setup::address_of(sent_at(bytes, 0), sent_at(bytes, 1))
 }
 
 // Whether an address is one of the buffer.
-fn near_fit(size: Size, address: usize) -> Sent
+fn near_fit(size: Size, address: usize) -> Result<(), Refusal>
     ensures { result ≡ near_fit size address }
 {
     if address < setup::size_of(size) {
-        Sent::Fit
+        Ok(())
     } else {
-        Sent::Refused(Refusal::FarStart)
+        Err(Refusal::FarStart)
     }
 }
 
 // Whether an address is one to start at.
-fn start_fit(size: Size, address: usize) -> Sent
+fn start_fit(size: Size, address: usize) -> Result<(), Refusal>
     ensures { result ≡ start_fit size address }
 {
     if address % 2 == 1 {
-        Sent::Refused(Refusal::OddStart)
+        Err(Refusal::OddStart)
     } else {
         near_fit(size, address)
     }
 }
 
-// What fits, where there are n bytes.
-fn count_fit(n: usize, bytes: &[u8], fit: Sent) -> Sent
-    ensures { result ≡ count_fit n bytes.now fit }
+// Whether there are n bytes.
+fn count_fit(n: usize, bytes: &[u8]) -> Result<(), Refusal>
+    ensures { result ≡ count_fit n bytes.now (Ok tt) }
 {
     if bytes.len() == n {
-        fit
+        Ok(())
     } else {
-        Sent::Refused(Refusal::WrongCount)
+        Err(Refusal::WrongCount)
     }
 }
 
 // Whether the bytes sent are those that a command takes.
-pub fn sent_by(size: Size, takes: Takes, bytes: &[u8]) -> Sent
+pub fn sent_by(size: Size, takes: Takes, bytes: &[u8]) -> Result<(), Refusal>
     ensures { result ≡ sent_by size takes bytes.now }
 {
     match takes {
-        Takes::Nothing => count_fit(0, bytes, Sent::Fit),
-        Takes::Bytes => Sent::Fit,
-        Takes::Address => count_fit(2, bytes, near_fit(size, address_in(bytes))),
-        Takes::Start => count_fit(2, bytes, start_fit(size, address_in(bytes))),
+        Takes::Nothing => count_fit(0, bytes),
+        Takes::Bytes => Ok(()),
+        Takes::Address => {
+            count_fit(2, bytes)?;
+            near_fit(size, address_in(bytes))
+        }
+        Takes::Start => {
+            count_fit(2, bytes)?;
+            start_fit(size, address_in(bytes))
+        }
     }
 }

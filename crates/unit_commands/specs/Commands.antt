@@ -1,7 +1,8 @@
 -- The commands of the channel (01, "Status, sense and commands"; 000 p.16 to 22, Tables 1 to 3): what each answers, does to the unit and
 -- leaves in the room lent.
-use Rattle.std.specs.Prelude.{ℕ, ◌+◌, ◌/◌, ◌%◌, Bool, true, false, cond, not, ◌||◌, List, eqb}
+use Rattle.std.specs.Prelude.{ℕ, ◌+◌, ◌/◌, ◌%◌, Bool, true, false, cond, not, ◌||◌, List, eqb, Err, Ok, Result}
 use Rattle.ground_refusals.specs.Refusals.{refusal_number}
+use Rattle.ground_refusals.specs.declared.Refusal.{Refusal}
 use Rattle.ground_setup.specs.Setup.{wrap_of}
 use Rattle.ground_orders.specs.declared.Mode.TheVariants.{Idle}
 use Rattle.unit_beam.specs.Beam.{high_byte, low_byte}
@@ -17,20 +18,16 @@ use Rattle.unit_codes.specs.Codes.{row_of, address_in, sent_by}
 use Rattle.unit_codes.specs.declared.Command.{Command}
 use Rattle.unit_codes.specs.declared.Command.TheVariants as command
 use Rattle.unit_codes.specs.declared.CommandRow.{CommandRow}
-use Rattle.unit_codes.specs.declared.Sent.{Sent}
-use Rattle.unit_codes.specs.declared.Sent.TheVariants as sent
 use Rattle.unit_commands.specs.declared.Reply.{Reply}
-use Rattle.unit_commands.specs.declared.Reply.TheVariants as reply
-use Rattle.unit_commands.specs.declared.HeadAnswered.{HeadAnswered}
 
 -- a command's answer in 01's numbers: its status and how many bytes it gave, or the number of its refusal
 pub data CommandValues : Type 0 where
   ended : ℕ → ℕ → CommandValues
   refused : ℕ → CommandValues
 
-abbrev pub command_values : Reply → CommandValues
-command_values (reply.Status status count) = CommandValues.ended status count
-command_values (reply.Refused r) = CommandValues.refused (refusal_number r)
+abbrev pub command_values : Result Reply Refusal → CommandValues
+command_values (Ok r) = CommandValues.ended r.status r.count
+command_values (Err r) = CommandValues.refused (refusal_number r)
 
 -- what a command leaves: the unit, the answer, and the room lent
 pub record CommandEnd : Type 0 where
@@ -38,9 +35,9 @@ pub record CommandEnd : Type 0 where
   pub answer : CommandValues
   pub room : List ℕ
 
--- the same of a call that gives the head beside its answer
-abbrev pub command_ended : List ℕ → HeadAnswered → List ℕ → CommandEnd
-command_ended words a room = record { unit = unit words a.head; answer = command_values a.answer; room = room }
+-- the same of a call that leaves the words, the head and the room, and answers
+abbrev pub command_ended : List ℕ → Head → Result Reply Refusal → List ℕ → CommandEnd
+command_ended words head r room = record { unit = unit words head; answer = command_values r; room = room }
 
 -- a command that ends with a status, so many bytes given
 abbrev pub ends : DisplayUnit → ℕ → ℕ → List ℕ → CommandEnd
@@ -70,18 +67,7 @@ busy status = cond (eqb (status / 0x10 % 2) 1) status (status + 0x10)
 
 abbrev pub waiting_status : Command → ℕ → ℕ
 waiting_status command.TestIo status = status
-waiting_status command.WriteBuffer status = busy status
-waiting_status command.ReadBuffer status = busy status
-waiting_status command.NoOperation status = busy status
-waiting_status command.Sense status = busy status
-waiting_status command.ReadCursor status = busy status
-waiting_status command.SetAndStop status = busy status
-waiting_status command.Alarm status = busy status
-waiting_status command.InsertCursor status = busy status
-waiting_status command.ReadXy status = busy status
-waiting_status command.RemoveCursor status = busy status
-waiting_status command.SetAndStart status = busy status
-waiting_status command.Invalid status = busy status
+waiting_status k status = busy status
 
 -- "The command does nothing else; the status is then no longer waiting."
 abbrev pub without_status : Head → Head
@@ -181,9 +167,9 @@ tried_command u row bytes room =
     (waiting_of u row.command room)
 
 -- "A refusal returns its number only and alters nothing."
-abbrev pub command_by : DisplayUnit → CommandRow → List ℕ → List ℕ → Sent → CommandEnd
-command_by u row bytes room (sent.Refused r) = record { unit = u; answer = CommandValues.refused (refusal_number r); room = room }
-command_by u row bytes room sent.Fit = tried_command u row bytes room
+abbrev pub command_by : DisplayUnit → CommandRow → List ℕ → List ℕ → Result (Unit {0}) Refusal → CommandEnd
+command_by u row bytes room (Err r) = record { unit = u; answer = CommandValues.refused (refusal_number r); room = room }
+command_by u row bytes room (Ok tt) = tried_command u row bytes room
 
 -- a command of a unit: its code, the bytes sent with it, and the room lent. "10, 3, 4 .. before any waiting status"
 unfoldable pub unit_command : DisplayUnit → ℕ → List ℕ → List ℕ → CommandEnd

@@ -1,12 +1,13 @@
-// The commands of the channel: each takes the words and the head of a unit, the bytes sent and the room lent, and answers beside the head.
+// The commands of the channel: each takes the words and the head of a unit, the bytes sent and the room lent, leaves them as they then are, and
+// answers.
 //
 // The contracts cite `specs/Commands.antt`.
 #![tactic(auto)]
 
-ghost use Rattle.std.specs.Prelude.{◌≡◌, List, ℕ};
+ghost use Rattle.std.specs.Prelude.{◌≡◌, List, ℕ, Ok};
 ghost use Rattle.ground_setup.specs.Setup.{wrap_of};
 ghost use Rattle.unit_head.specs.Head.{no_sense, with_sense, unit};
-ghost use Rattle.unit_commands.specs.Commands.{command_ended, ends, busy, waiting_status, waiting_of, rejected_of, sensed, written_by, read_ended, read_by, place_read, inserted_by, removed_by, started_at, stopped_at, started_by, stopped_by, done_of, allowed, tried_command, unit_command};
+ghost use Rattle.unit_commands.specs.Commands.{command_ended, done, busy, waiting_status, waiting_of, rejected_of, sensed, written_by, read_ended, read_by, place_read, inserted_by, removed_by, started_by, stopped_by, done_of, allowed, tried_command, unit_command};
 
 use ground_orders::Mode;
 use ground_refusals::Refusal;
@@ -15,34 +16,15 @@ use unit_beam as beam;
 use unit_buffer as buffer;
 use unit_buffer::Read;
 use unit_codes as codes;
-use unit_codes::{Command, CommandRow, Sent};
-use unit_cursor as cursor;
-use unit_head as head;
+use unit_codes::{Command, CommandRow};
 use unit_head::{Head, State};
 use unit_sense as sense;
 
-// What a command answers: its status and how many bytes it gave, or a refusal.
+// What a command answers that is not refused: its status, and how many bytes it gave.
 #[derive(Clone, Copy)]
-pub enum Reply {
-    Status(u8, usize),
-    Refused(Refusal),
-}
-
-// The head after a command, and the answer.
-#[derive(Clone, Copy)]
-pub struct HeadAnswered {
-    pub head: Head,
-    pub answer: Reply,
-}
-
-// The head with a status and a count as the answer.
-fn answer(head: Head, status: u8, count: usize) -> HeadAnswered
-    ensures { (words room : List ℕ) → command_ended words result room ≡ ends (unit words head) status count room }
-{
-    HeadAnswered {
-        head: head,
-        answer: Reply::Status(status, count),
-    }
+pub struct Reply {
+    pub status: u8,
+    pub count: usize,
 }
 
 // A status with Busy.
@@ -60,106 +42,107 @@ fn with_busy(status: u8) -> u8
 fn waiting_status(command: Command, status: u8) -> u8
     ensures { result ≡ waiting_status command status }
 {
-    match command {
-        Command::TestIo => status,
-        Command::WriteBuffer => with_busy(status),
-        Command::ReadBuffer => with_busy(status),
-        Command::NoOperation => with_busy(status),
-        Command::Sense => with_busy(status),
-        Command::ReadCursor => with_busy(status),
-        Command::SetAndStop => with_busy(status),
-        Command::Alarm => with_busy(status),
-        Command::InsertCursor => with_busy(status),
-        Command::ReadXy => with_busy(status),
-        Command::RemoveCursor => with_busy(status),
-        Command::SetAndStart => with_busy(status),
-        Command::Invalid => with_busy(status),
+    if command == Command::TestIo {
+        status
+    } else {
+        with_busy(status)
     }
 }
 
 // The answer by waiting status.
-fn waiting(mut head: Head, command: Command) -> HeadAnswered
-    ensures { (words room : List ℕ) → command_ended words result room ≡ waiting_of (unit words head) command room }
+fn waiting(head: &mut Head, command: Command) -> Reply
+    ensures { (words room : List ℕ) → command_ended words head.new (Ok result) room ≡ waiting_of (unit words head.old) command room }
 {
     let status = waiting_status(command, head.status);
     head.status = 0;
-    answer(head, status, 0)
+    Reply { status, count: 0 }
 }
 
 // The answer of a reject.
-fn rejected(mut head: Head) -> HeadAnswered
-    ensures { (words room : List ℕ) → command_ended words result room ≡ rejected_of (unit words head) room }
+fn rejected(head: &mut Head) -> Reply
+    ensures { (words room : List ℕ) → command_ended words head.new (Ok result) room ≡ rejected_of (unit words head.old) room }
 {
     head.sense = sense::bits(true, false, false, false);
-    answer(head, 0x02, 0)
+    Reply {
+        status: 0x02,
+        count: 0,
+    }
 }
 
-// The head with its sense data reset.
-fn with_reset(mut head: Head) -> Head
-    ensures { result ≡ with_sense head no_sense }
+// Resets the sense data.
+fn reset(head: &mut Head)
+    ensures { head.new ≡ with_sense head.old no_sense }
 {
     head.sense = sense::bits(false, false, false, false);
-    head
+}
+
+// A command that is done and gives so many bytes.
+fn ended(count: usize) -> Reply
+    ensures { (result.status ≡ done) × (result.count ≡ count) }
+{
+    Reply {
+        status: 0x0C,
+        count,
+    }
 }
 
 // Sense.
-fn give_sense(mut head: Head, room: &mut [u8]) -> HeadAnswered
-    ensures { (words : List ℕ) → command_ended words result room.new ≡ sensed (unit words head) room.old }
+fn give_sense(head: &mut Head, room: &mut [u8]) -> Reply
+    ensures { (words : List ℕ) → command_ended words head.new (Ok result) room.new ≡ sensed (unit words head.old) room.old }
 {
-    let state = head.state;
-    let bits = head.sense;
-    let count = sense::give_sense(room, state, bits);
-    head.sense = sense::given(bits);
-    answer(head, 0x0C, count)
+    let count = sense::give_sense(room, head.state, head.sense);
+    head.sense = sense::given(head.sense);
+    ended(count)
 }
 
 // Write Buffer.
-fn write_buffer(words: &mut [u16], mut head: Head, bytes: &[u8]) -> HeadAnswered
-    ensures { (room : List ℕ) → command_ended words.new result room ≡ written_by (unit words.old head) bytes.now room }
+fn write_buffer(words: &mut [u16], head: &mut Head, bytes: &[u8]) -> Reply
+    ensures { (room : List ℕ) → command_ended words.new head.new (Ok result) room ≡ written_by (unit words.old head.old) bytes.now room }
 {
     let state = head.state;
-    let setup = state.setup;
-    let size = setup.size;
-    let cursor = head.cursor;
-    let written = buffer::write_in(words, cursor, size, state.address, bytes);
-    let after = written.cursor;
-    head.cursor = after;
-    head.state = head::with_address(state, written.address);
-    answer(head, 0x0C, 0)
+    head.state.address = buffer::write_in(
+        words,
+        &mut head.cursor,
+        state.setup.size,
+        state.address,
+        bytes,
+    );
+    ended(0)
 }
 
 // A read that ended.
-fn read_ended(mut head: Head, read: Read) -> HeadAnswered
-    ensures { (words room : List ℕ) → command_ended words result room ≡ read_ended (unit words head) read room }
+fn read_ended(head: &mut Head, read: Read) -> Reply
+    ensures { (words room : List ℕ) → command_ended words head.new (Ok result) room ≡ read_ended (unit words head.old) read room }
 {
-    let state = head.state;
-    head.state = head::with_address(state, read.address);
-    if read.good {
-        head.sense = sense::bits(false, false, false, false);
-        return answer(head, 0x0C, read.count);
+    head.state.address = read.address;
+    head.sense = sense::bits(false, !read.good, false, false);
+    Reply {
+        status: if read.good { 0x0C } else { 0x0E },
+        count: read.count,
     }
-    head.sense = sense::bits(false, true, false, false);
-    answer(head, 0x0E, read.count)
 }
 
 // Read Buffer, or Read Cursor, which seeks the cursor.
-fn read_buffer(words: &[u16], head: Head, seek: bool, room: &mut [u8]) -> HeadAnswered
-    ensures { command_ended words.now result room.new ≡ read_by (unit words.now head) seek room.old }
+fn read_buffer(words: &[u16], head: &mut Head, seek: bool, room: &mut [u8]) -> Reply
+    ensures { command_ended words.now head.new (Ok result) room.new ≡ read_by (unit words.now head.old) seek room.old }
 {
     let state = head.state;
-    let setup = state.setup;
-    let size = setup.size;
-    let cursor = head.cursor;
-    let read = buffer::read_out(words, cursor, size, seek, state.address, room);
+    let read = buffer::read_out(
+        words,
+        head.cursor,
+        state.setup.size,
+        seek,
+        state.address,
+        room,
+    );
     read_ended(head, read)
 }
 
 // Read XY.
-fn read_xy(head: Head, room: &mut [u8]) -> HeadAnswered
-    ensures { (words : List ℕ) → command_ended words result room.new ≡ place_read (unit words head) room.old }
+fn read_xy(head: &mut Head, room: &mut [u8]) -> Reply
+    ensures { (words : List ℕ) → command_ended words head.new (Ok result) room.new ≡ place_read (unit words head.old) room.old }
 {
-    let state = head.state;
-    let beam = state.beam;
+    let beam = head.state.beam;
     let count = sense::give(
         room,
         beam::high_byte(beam.x),
@@ -167,106 +150,111 @@ fn read_xy(head: Head, room: &mut [u8]) -> HeadAnswered
         beam::high_byte(beam.y),
         beam::low_byte(beam.y),
     );
-    answer(head, 0x0C, count)
+    ended(count)
 }
 
 // The location that a state's address is.
 fn location_of(state: State) -> usize
     ensures { result ≡ wrap_of state.setup.size state.address }
 {
-    let setup = state.setup;
-    let size = setup.size;
-    setup::wrap(size, state.address)
+    setup::wrap(state.setup.size, state.address)
 }
 
 // Insert Cursor.
-fn insert_cursor(words: &mut [u16], mut head: Head) -> HeadAnswered
-    ensures { (room : List ℕ) → command_ended words.new result room ≡ inserted_by (unit words.old head) room }
+fn insert_cursor(words: &mut [u16], head: &mut Head) -> Reply
+    ensures { (room : List ℕ) → command_ended words.new head.new (Ok result) room ≡ inserted_by (unit words.old head.old) room }
 {
-    let state = head.state;
-    let cursor = head.cursor;
-    head.cursor = cursor::set_here(words, cursor, location_of(state));
-    answer(head, 0x0C, 0)
+    head.cursor.set_here(words, location_of(head.state));
+    ended(0)
 }
 
 // Remove Cursor.
-fn remove_cursor(words: &mut [u16], mut head: Head) -> HeadAnswered
-    ensures { (room : List ℕ) → command_ended words.new result room ≡ removed_by (unit words.old head) room }
+// Beside insert_cursor: one call each, and a definition each.
+fn remove_cursor(words: &mut [u16], head: &mut Head) -> Reply
+    ensures { (room : List ℕ) → command_ended words.new head.new (Ok result) room ≡ removed_by (unit words.old head.old) room }
 {
-    let state = head.state;
-    let cursor = head.cursor;
-    head.cursor = cursor::clear_here(words, cursor, location_of(state));
-    answer(head, 0x0C, 0)
-}
-
-// The state started at an address.
-fn started(state: State, address: usize) -> State
-    ensures { result ≡ started_at state address }
-{
-    let setup = state.setup;
-    let beam = state.beam;
-    let pen = state.pen;
-    State {
-        setup: setup,
-        address: address,
-        mode: Mode::Idle,
-        running: true,
-        beam: beam,
-        pen: pen,
-    }
-}
-
-// The state stopped at an address.
-fn stopped(mut state: State, address: usize) -> State
-    ensures { result ≡ stopped_at state address }
-{
-    state.address = address;
-    state.running = false;
-    state
+    head.cursor.clear_here(words, location_of(head.state));
+    ended(0)
 }
 
 // Set Buffer Address and Start.
-fn set_and_start(mut head: Head, address: usize) -> HeadAnswered
-    ensures { (words room : List ℕ) → command_ended words result room ≡ started_by (unit words head) address room }
+fn set_and_start(head: &mut Head, address: usize) -> Reply
+    ensures { (words room : List ℕ) → command_ended words head.new (Ok result) room ≡ started_by (unit words head.old) address room }
 {
-    let state = head.state;
-    head.state = started(state, address);
-    answer(head, 0x0C, 0)
+    head.state = State {
+        address,
+        mode: Mode::Idle,
+        running: true,
+        ..head.state
+    };
+    ended(0)
 }
 
 // Set Buffer Address and Stop.
-fn set_and_stop(mut head: Head, address: usize) -> HeadAnswered
-    ensures { (words room : List ℕ) → command_ended words result room ≡ stopped_by (unit words head) address room }
+fn set_and_stop(head: &mut Head, address: usize) -> Reply
+    ensures { (words room : List ℕ) → command_ended words head.new (Ok result) room ≡ stopped_by (unit words head.old) address room }
 {
-    let state = head.state;
-    head.state = stopped(state, address);
-    answer(head, 0x0C, 0)
+    head.state = State {
+        address,
+        running: false,
+        ..head.state
+    };
+    ended(0)
 }
 
 // A command that is done.
 fn done(
     words: &mut [u16],
-    head: Head,
+    head: &mut Head,
     command: Command,
     bytes: &[u8],
     room: &mut [u8],
-) -> HeadAnswered
-    ensures { command_ended words.new result room.new ≡ done_of (unit words.old head) command bytes.now room.old }
+) -> Reply
+    ensures { command_ended words.new head.new (Ok result) room.new ≡ done_of (unit words.old head.old) command bytes.now room.old }
 {
-    let cursor = head.cursor;
     match command {
-        Command::TestIo => answer(head, 0x00, 0),
-        Command::WriteBuffer => write_buffer(words, with_reset(head), bytes),
-        Command::ReadBuffer => read_buffer(words, with_reset(head), false, room),
-        Command::NoOperation => answer(head, 0x0C, 0),
+        Command::TestIo => Reply {
+            status: 0x00,
+            count: 0,
+        },
+        Command::WriteBuffer => {
+            reset(head);
+            write_buffer(words, head, bytes)
+        }
+        Command::ReadBuffer => {
+            reset(head);
+            read_buffer(words, head, false, room)
+        }
+        Command::NoOperation => ended(0),
         Command::Sense => give_sense(head, room),
-        Command::ReadCursor => read_buffer(words, with_reset(head), cursor::is_set(cursor), room),
-        Command::SetAndStop => set_and_stop(with_reset(head), codes::address_in(bytes)),
-        Command::Alarm => answer(with_reset(head), 0x0C, 0),
-        Command::InsertCursor => insert_cursor(words, with_reset(head)),
-        Command::ReadXy => read_xy(with_reset(head), room),
-        Command::RemoveCursor => remove_cursor(words, with_reset(head)),
-        Command::SetAndStart => set_and_start(with_reset(head), codes::address_in(bytes)),
+        Command::ReadCursor => {
+            reset(head);
+            read_buffer(words, head, head.cursor.is_set(), room)
+        }
+        Command::SetAndStop => {
+            reset(head);
+            set_and_stop(head, codes::address_in(bytes))
+        }
+        Command::Alarm => {
+            reset(head);
+            ended(0)
+        }
+        Command::InsertCursor => {
+            reset(head);
+            insert_cursor(words, head)
+        }
+        Command::ReadXy => {
+            reset(head);
+            read_xy(head, room)
+        }
+        Command::RemoveCursor => {
+            reset(head);
+            remove_cursor(words, head)
+        }
+        Command::SetAndStart => {
+            reset(head);
+            set_and_start(head, codes::address_in(bytes))
+        }
         Command::Invalid => rejected(head),
     }
 }
@@ -275,53 +263,42 @@ fn done(
 fn is_allowed(while_running: bool, running: bool) -> bool
     ensures { result ≡ allowed while_running running }
 {
-    if running { while_running } else { true }
+    !running || while_running
 }
 
 // A command that is not refused: waiting status first, then a reject, else it is done.
 #[tactic(auto, unfolding(crate::specs::Commands::tried_command))]
 fn tried(
     words: &mut [u16],
-    head: Head,
+    head: &mut Head,
     row: CommandRow,
     bytes: &[u8],
     room: &mut [u8],
-) -> HeadAnswered
-    ensures { command_ended words.new result room.new ≡ tried_command (unit words.old head) row bytes.now room.old }
+) -> Reply
+    ensures { command_ended words.new head.new (Ok result) room.new ≡ tried_command (unit words.old head.old) row bytes.now room.old }
 {
-    let state = head.state;
-    let command = row.command;
     if head.status != 0 {
-        return waiting(head, command);
+        return waiting(head, row.command);
     }
-    if is_allowed(row.running, state.running) {
-        done(words, head, command, bytes, room)
+    if is_allowed(row.running, head.state.running) {
+        done(words, head, row.command, bytes, room)
     } else {
         rejected(head)
     }
 }
 
-// Gives a command to the unit: the bytes sent with it, and the room lent for what it reads.
+// Gives a command to the unit: the bytes sent with it, and the room lent for what it reads. A refusal leaves all as it was.
 #[tactic(auto, unfolding(crate::specs::Commands::unit_command))]
 pub fn command(
     words: &mut [u16],
-    head: Head,
+    head: &mut Head,
     code: u8,
     bytes: &[u8],
     room: &mut [u8],
-) -> HeadAnswered
-    ensures { command_ended words.new result room.new ≡ unit_command (unit words.old head) code bytes.now room.old }
+) -> Result<Reply, Refusal>
+    ensures { command_ended words.new head.new result room.new ≡ unit_command (unit words.old head.old) code bytes.now room.old }
 {
-    let state = head.state;
-    let setup = state.setup;
-    let size = setup.size;
     let row = codes::row_of(code);
-    let takes = row.takes;
-    match codes::sent_by(size, takes, bytes) {
-        Sent::Refused(refusal) => HeadAnswered {
-            head: head,
-            answer: Reply::Refused(refusal),
-        },
-        Sent::Fit => tried(words, head, row, bytes, room),
-    }
+    codes::sent_by(head.state.setup.size, row.takes, bytes)?;
+    Ok(tried(words, head, row, bytes, room))
 }

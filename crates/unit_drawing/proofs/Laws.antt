@@ -1,6 +1,7 @@
 -- Laws of what a step draws: a sight over one item, and over a code with more behind it; that cursors are not counted; that the item hit is
 -- the last that is drawn; and that no sight hits none.
 use Prim.Native.Nat.{ℕ, ◌-◌}
+use Rattle.std.specs.Prelude.{None, Option, Some}
 use mathlib.Core.Path.{◌≡◌, refl, ap, sym, ◌∙◌}
 use mathlib.Core.Bool.{Bool, true, false, cond, ◌&&◌}
 use mathlib.Core.List.{List, [], ◌∷◌, ◌++◌, append-nil}
@@ -14,8 +15,7 @@ use Rattle.unit_motion.specs.declared.Motion.{Motion}
 use Rattle.unit_motion.specs.declared.Motion.TheVariants.{Still, To, Codes}
 use Rattle.unit_motion.specs.Codes.{draws, after_code}
 use Rattle.unit_drawing.specs.declared.Hit.{Hit}
-use Rattle.unit_drawing.specs.declared.Hit.TheVariants.{Missed, At}
-use Rattle.unit_drawing.specs.Drawing.{Stroke, stroke, character_at, cursor_at, has_cursor, code_strokes, codes_strokes, strokes_of, counts, item_address, falls, left, upto, hit_in}
+use Rattle.unit_drawing.specs.Drawing.{Stroke, stroke, character_at, cursor_at, has_cursor, code_strokes, codes_strokes, strokes_of, counts, item_address, falls, left, upto, hit, hit_in}
 
 one_item : (t : Bool) (i : Item) → (i ∷ cond t [] []) ≡ i ∷ []
 one_item true i = refl
@@ -41,7 +41,7 @@ module _ (size : CharacterSize) (code : ℕ) (beam end : Beam) (at : ℕ) where
   upto_parts false true sight ss = refl
   upto_parts false false sight ss = refl
 
-  hit_parts : (d k : Bool) (sight : ℕ) (ss : List Stroke) → hit_in sight (parts d k ++ ss) ≡ cond d (cond (eqb sight 1) (At at end) (hit_in (sight - 1) ss)) (hit_in sight ss)
+  hit_parts : (d k : Bool) (sight : ℕ) (ss : List Stroke) → hit_in sight (parts d k ++ ss) ≡ cond d (cond (eqb sight 1) (Some (hit at end)) (hit_in (sight - 1) ss)) (hit_in sight ss)
   unfolding hit_in
   hit_parts true true sight ss = refl
   hit_parts true false sight ss = refl
@@ -55,11 +55,11 @@ module _ (size : CharacterSize) (code : ℕ) (marked : Bool) (beam : Beam) (at s
   upto_code ss = upto_parts size code beam (after_code size code beam) at (draws code) (has_cursor marked code) sight ss
 
   -- a sight falls on a code's character or on what is behind it
-  pub hit_behind : (ss : List Stroke) → hit_in sight (code_strokes size code marked beam at ++ ss) ≡ cond (draws code) (cond (eqb sight 1) (At at (after_code size code beam)) (hit_in (sight - 1) ss)) (hit_in sight ss)
+  pub hit_behind : (ss : List Stroke) → hit_in sight (code_strokes size code marked beam at ++ ss) ≡ cond (draws code) (cond (eqb sight 1) (Some (hit at (after_code size code beam))) (hit_in (sight - 1) ss)) (hit_in sight ss)
   unfolding code_strokes
   hit_behind ss = hit_parts size code beam (after_code size code beam) at (draws code) (has_cursor marked code) sight ss
 
-  pub hit_alone : hit_in sight (code_strokes size code marked beam at) ≡ cond (draws code) (cond (eqb sight 1) (At at (after_code size code beam)) Missed) Missed
+  pub hit_alone : hit_in sight (code_strokes size code marked beam at) ≡ cond (draws code) (cond (eqb sight 1) (Some (hit at (after_code size code beam))) None) None
   unfolding hit_in
   hit_alone = ap (hit_in sight) (sym (append-nil (code_strokes size code marked beam at))) ∙ hit_behind []
 
@@ -88,41 +88,42 @@ both_true true b e = refl
 both_true false b e = e
 
 module _ (s : Stroke) (ss : List Stroke) (sight : ℕ) where
-  missed_by : (t : Bool) → falls sight s.item ≡ t → (hit_in (left sight s.item) ss ≡ Missed → upto (left sight s.item) ss ≡ along ss) → hit_in sight (s ∷ ss) ≡ Missed → upto sight (s ∷ ss) ≡ along (s ∷ ss)
+  missed_by : (t : Bool) → falls sight s.item ≡ t → (hit_in (left sight s.item) ss ≡ None → upto (left sight s.item) ss ≡ along ss) → hit_in sight (s ∷ ss) ≡ None → upto sight (s ∷ ss) ≡ along (s ∷ ss)
   unfolding hit_in upto
   missed_by true e ih h =
-      let no : At (item_address s.item) s.end ≡ Missed = simp e at h in
+      let no : Some (hit (item_address s.item) s.end) ≡ None = simp e at h in
       let z : ◌≡◌ {A = ℕ} 0 1 = cc in
       absurd (omega arith)
   missed_by false e ih h = simp e (ap (λ (is : List Item). s.item ∷ is) (ih (simp e at h)))
 
-  last_by : (at : ℕ) (end : Beam) (t : Bool) → falls sight s.item ≡ t → (hit_in (left sight s.item) ss ≡ At at end → Ends (upto (left sight s.item) ss) at) → hit_in sight (s ∷ ss) ≡ At at end → Ends (upto sight (s ∷ ss)) at
+  last_by : (at : ℕ) (end : Beam) (t : Bool) → falls sight s.item ≡ t → (hit_in (left sight s.item) ss ≡ Some (hit at end) → Ends (upto (left sight s.item) ss) at) → hit_in sight (s ∷ ss) ≡ Some (hit at end) → Ends (upto sight (s ∷ ss)) at
   unfolding hit_in upto
   last_by at end true e ih h =
-      let one_item : At (item_address s.item) s.end ≡ At at end = simp e at h in
-      record { before = []; item = s.item; whole = simp e; counted = both_true _ _ e; address = cc }
+      let one_item : Some (hit (item_address s.item) s.end) ≡ Some (hit at end) = simp e at h in
+      let same : hit (item_address s.item) s.end ≡ hit at end = cc in
+      record { before = []; item = s.item; whole = simp e; counted = both_true _ _ e; address = ap (λ (x : Hit). x.at) same }
   last_by at end false e ih h =
       let r = ih (simp e at h) in
       record { before = s.item ∷ r.before; item = r.item; whole = simp (e, r.whole); counted = r.counted; address = r.address }
 
 -- "no such item means none": where the sight falls on no item, all are drawn
-pub missed : (ss : List Stroke) (sight : ℕ) → hit_in sight ss ≡ Missed → upto sight ss ≡ along ss
+pub missed : (ss : List Stroke) (sight : ℕ) → hit_in sight ss ≡ None → upto sight ss ≡ along ss
 unfolding upto
 missed [] sight h = refl
 missed (s ∷ ss) sight h = missed_by s ss sight (falls sight s.item) refl (missed ss (left sight s.item)) h
 
 -- where it falls on one, that item is the last that is drawn
-pub hit_last : (ss : List Stroke) (sight at : ℕ) (end : Beam) → hit_in sight ss ≡ At at end → Ends (upto sight ss) at
+pub hit_last : (ss : List Stroke) (sight at : ℕ) (end : Beam) → hit_in sight ss ≡ Some (hit at end) → Ends (upto sight ss) at
 unfolding hit_in
 hit_last [] sight at end h = let z : ◌≡◌ {A = ℕ} 0 1 = cc in absurd (omega arith)
 hit_last (s ∷ ss) sight at end h = last_by s ss sight at end (falls sight s.item) refl (hit_last ss (left sight s.item) at end) h
 
 -- "0 none": no sight falls on no item
-unseen_by : (h : Hit) (rest : ℕ → Hit) → rest 0 ≡ Missed → (b : Bool) → cond (b && eqb 0 1) h (rest (cond b (0 - 1) 0)) ≡ Missed
+unseen_by : (h : Option Hit) (rest : ℕ → Option Hit) → rest 0 ≡ None → (b : Bool) → cond (b && eqb 0 1) h (rest (cond b (0 - 1) 0)) ≡ None
 unseen_by h rest e true = e
 unseen_by h rest e false = e
 
-pub unseen : (ss : List Stroke) → hit_in 0 ss ≡ Missed
+pub unseen : (ss : List Stroke) → hit_in 0 ss ≡ None
 unfolding hit_in
 unseen [] = refl
-unseen (s ∷ ss) = unseen_by (At (item_address s.item) s.end) (λ sight. hit_in sight ss) (unseen ss) (counts s.item)
+unseen (s ∷ ss) = unseen_by (Some (hit (item_address s.item) s.end)) (λ sight. hit_in sight ss) (unseen ss) (counts s.item)

@@ -1,5 +1,5 @@
 -- What a step draws, in order, and what a sight makes of it (01, "Drawn item" and "The pen").
-use Rattle.std.specs.Prelude.{ℕ, ◌-◌, Bool, true, false, cond, not, ◌&&◌, ◌||◌, List, [], ◌∷◌, ◌++◌, eqb}
+use Rattle.std.specs.Prelude.{ℕ, ◌-◌, Bool, true, false, cond, not, ◌&&◌, ◌||◌, List, [], ◌∷◌, ◌++◌, eqb, None, Option, Some}
 use Rattle.unit_beam.specs.declared.Beam.{Beam}
 use Rattle.unit_beam.specs.declared.CharacterSize.{CharacterSize}
 use Rattle.unit_beam.specs.Beam.{ten_bits}
@@ -14,7 +14,6 @@ use Rattle.unit_motion.specs.declared.Trace.TheVariants as trace
 use Rattle.unit_motion.specs.declared.Motion.{Motion}
 use Rattle.unit_motion.specs.declared.Motion.TheVariants.{Still, To, Codes}
 use Rattle.unit_drawing.specs.declared.Hit.{Hit}
-use Rattle.unit_drawing.specs.declared.Hit.TheVariants.{Missed, At}
 
 -- an item, and where the beam stands behind it
 pub record Stroke : Type 0 where
@@ -101,7 +100,11 @@ unfoldable pub upto : ℕ → List Stroke → List Item
 upto sight [] = []
 upto sight (s ∷ ss) = s.item ∷ cond (falls sight s.item) [] (upto (left sight s.item) ss)
 
--- where the sight falls: the item's address, and "the beam at the item's end", behind a character where the next would stand (000 p.20)
-unfoldable pub hit_in : ℕ → List Stroke → Hit
-hit_in sight [] = Missed
-hit_in sight (s ∷ ss) = cond (falls sight s.item) (At (item_address s.item) s.end) (hit_in (left sight s.item) ss)
+-- the item hit: its address, and "the beam at the item's end", behind a character where the next would stand (000 p.20)
+abbrev pub hit : ℕ → Beam → Hit
+hit at end = record { at = at; end = end }
+
+-- where the sight falls
+unfoldable pub hit_in : ℕ → List Stroke → Option Hit
+hit_in sight [] = None
+hit_in sight (s ∷ ss) = cond (falls sight s.item) (Some (hit (item_address s.item) s.end)) (hit_in (left sight s.item) ss)

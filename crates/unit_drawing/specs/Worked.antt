@@ -1,5 +1,5 @@
 -- Worked cases of what a step draws: each kind of item, what is blanked, codes that draw nothing, and sights. The step is at 10 of 4,096 locations.
-use Rattle.std.specs.Prelude.{ℕ, ◌≡◌, refl, Bool, true, false, List, [], ◌∷◌}
+use Rattle.std.specs.Prelude.{ℕ, ◌≡◌, refl, Bool, true, false, List, [], ◌∷◌, None, Option, Some}
 use Rattle.unit_beam.specs.declared.Beam.{Beam}
 use Rattle.unit_beam.specs.declared.CharacterSize.TheVariants as size
 use Rattle.unit_beam.specs.Beam.{beam_at, placed, blanked_place, increment, exact_sum, summed, stepped, leaves_screen, blanked_step, line_below, new_line, after_character}
@@ -13,8 +13,7 @@ use Rattle.unit_items.specs.declared.Item.TheVariants.{Point, Vector, Character,
 use Rattle.unit_motion.specs.Codes.{draws, after_code}
 use Rattle.unit_motion.specs.Motion.{two_of, four_of, motion_of, beam_after}
 use Rattle.unit_drawing.specs.declared.Hit.{Hit}
-use Rattle.unit_drawing.specs.declared.Hit.TheVariants.{Missed, At}
-use Rattle.unit_drawing.specs.Drawing.{shows_cursor, has_cursor, code_strokes, codes_strokes, strokes_of, upto, hit_in}
+use Rattle.unit_drawing.specs.Drawing.{shows_cursor, has_cursor, code_strokes, codes_strokes, strokes_of, upto, hit, hit_in}
 
 -- the items that a look draws in a mode from where the beam stands, by the cursor bits and the sight
 abbrev items : Look → Mode → Beam → Bool → Bool → ℕ → List Item
@@ -23,7 +22,7 @@ items l m beam c0 c1 sight = upto sight (strokes_of (motion_of l m beam) beam c0
 abbrev leaves : Look → Mode → Beam → Beam
 leaves l m beam = beam_after (motion_of l m beam) beam
 
-abbrev sighted : Look → Mode → Beam → ℕ → Hit
+abbrev sighted : Look → Mode → Beam → ℕ → Option Hit
 sighted l m beam sight = hit_in sight (strokes_of (motion_of l m beam) beam false false K4 10)
 
 -- X 0200, Y 0400, unblanked and blanked
@@ -57,12 +56,12 @@ pub record Worked : Type 0 where
   pub odd_2_a : items (codes 0xC1 0x2A) mode.Basic (beam_at 0 1023) false true 0 ≡ Character size.Basic 0 1023 0xC1 10 ∷ Cursor size.Basic 14 1023 0x2A 11 ∷ []
   pub odd_2_a_spaces : leaves (codes 0xC1 0x2A) mode.Basic (beam_at 0 1023) ≡ beam_at 28 1023
   pub first_seen : items (codes 0xC1 0xC2) mode.Basic (beam_at 0 1023) true false 1 ≡ Character size.Basic 0 1023 0xC1 10 ∷ []
-  pub first_struck : sighted (codes 0xC1 0xC2) mode.Basic (beam_at 1022 500) 1 ≡ At 10 (beam_at 0 480)
+  pub first_struck : sighted (codes 0xC1 0xC2) mode.Basic (beam_at 1022 500) 1 ≡ Some (hit 10 (beam_at 0 480))
   pub second_seen : items (codes 0xC1 0xC2) mode.Basic (beam_at 0 1023) true true 2 ≡ Character size.Basic 0 1023 0xC1 10 ∷ Cursor size.Basic 0 1023 0xC1 10 ∷ Character size.Basic 14 1023 0xC2 11 ∷ []
-  pub second_struck : sighted (codes 0xC1 0xC2) mode.Basic (beam_at 0 1023) 2 ≡ At 11 (beam_at 28 1023)
-  pub first_is_second : sighted (codes 0x40 0xC2) mode.Basic (beam_at 0 1023) 1 ≡ At 11 (beam_at 28 1023)
-  pub no_second : sighted (codes 0x40 0xC2) mode.Basic (beam_at 0 1023) 2 ≡ Missed
-  pub vector_struck : sighted shown mode.Vector (beam_at 3 5) 1 ≡ At 10 (beam_at 128 256)
+  pub second_struck : sighted (codes 0xC1 0xC2) mode.Basic (beam_at 0 1023) 2 ≡ Some (hit 11 (beam_at 28 1023))
+  pub first_is_second : sighted (codes 0x40 0xC2) mode.Basic (beam_at 0 1023) 1 ≡ Some (hit 11 (beam_at 28 1023))
+  pub no_second : sighted (codes 0x40 0xC2) mode.Basic (beam_at 0 1023) 2 ≡ None
+  pub vector_struck : sighted shown mode.Vector (beam_at 3 5) 1 ≡ Some (hit 10 (beam_at 128 256))
 
 pub worked : Worked
 unfolding placed blanked_place increment exact_sum summed stepped leaves_screen blanked_step line_below new_line after_character draws after_code two_of four_of motion_of beam_after shows_cursor has_cursor code_strokes codes_strokes strokes_of upto hit_in

@@ -2,10 +2,10 @@
 // a call of its own.
 #![tactic(auto)]
 
-ghost use Rattle.std.specs.Prelude.{◌≡◌, Bool, cond, false, ◌-◌, eqb};
+ghost use Rattle.std.specs.Prelude.{◌≡◌, Bool, cond, false, eqb, None, Some};
 ghost use Rattle.unit_items.specs.Items.{items_in, items_of};
 ghost use Rattle.ground_setup.specs.Setup.{wrap_of, ahead_of};
-ghost use Rattle.unit_drawing.specs.Drawing.{shows_cursor, point_at, vector_at, character_at, cursor_at, trace_strokes, has_cursor, code_strokes, codes_strokes, strokes_of, first_strokes, upto, hit_in};
+ghost use Rattle.unit_drawing.specs.Drawing.{shows_cursor, point_at, vector_at, character_at, cursor_at, trace_strokes, has_cursor, code_strokes, codes_strokes, strokes_of, first_strokes, upto, hit, hit_in};
 
 use ground_setup as setup;
 use ground_setup::Size;
@@ -16,9 +16,9 @@ use unit_motion::{Motion, Trace};
 
 // The item that a sight falls on: its address, and the beam at its end.
 #[derive(Clone, Copy)]
-pub enum Hit {
-    Missed,
-    At(usize, Beam),
+pub struct Hit {
+    pub at: usize,
+    pub end: Beam,
 }
 
 // Whether a cursor that stands on a code is shown.
@@ -26,10 +26,7 @@ pub enum Hit {
 fn shows_cursor(code: u8) -> bool
     ensures { result ≡ shows_cursor code }
 {
-    match code {
-        0x00 | 0x15 => false,
-        _ => true,
-    }
+    !matches!(code, 0x00 | 0x15)
 }
 
 // The address A of a step.
@@ -46,72 +43,72 @@ fn next_address(size: Size, at: usize) -> u16
     setup::ahead(size, at, 1) as u16
 }
 
-// A sight once an item has gone by.
-fn less_one(sight: u8) -> u8
-    ensures { result ≡ sight - 1 }
-{
-    if sight == 0 { 0 } else { sight - 1 }
-}
-
 // The hit where there is one item.
-fn hit_only(sight: u8, at: u16, end: Beam) -> Hit
-    ensures { result ≡ cond (eqb sight 1) (Hit.At at end) Hit.Missed }
+fn hit_only(sight: u8, at: u16, end: Beam) -> Option<Hit>
+    ensures { result ≡ cond (eqb sight 1) (Some (hit at end)) None }
 {
-    if sight == 1 {
-        Hit::At(at as usize, end)
-    } else {
-        Hit::Missed
-    }
+    (sight == 1).then_some(Hit {
+        at: usize::from(at),
+        end,
+    })
 }
 
 // The hit on what coordinates leave, whether they left the screen or not.
 #[tactic(auto, unfolding(crate::specs::Drawing::hit_in))]
-fn hit_trace(trace: Trace, beam: Beam, to: Beam, at: u16, sight: u8) -> Hit
+fn hit_trace(trace: Trace, beam: Beam, to: Beam, at: u16, sight: u8) -> Option<Hit>
     ensures { (off : Bool) → result ≡ hit_in sight (trace_strokes trace beam to off at) }
 {
     match trace {
-        Trace::Blanked => Hit::Missed,
-        Trace::Point => hit_only(sight, at, to),
-        Trace::Vector => hit_only(sight, at, to),
+        Trace::Blanked => None,
+        Trace::Point | Trace::Vector => hit_only(sight, at, to),
     }
 }
 
 // The hit on one code.
 #[tactic(auto, using(crate::proofs::Laws::hit_alone))]
-fn hit_code(size: CharacterSize, code: u8, beam: Beam, at: u16, sight: u8) -> Hit
+fn hit_code(size: CharacterSize, code: u8, beam: Beam, at: u16, sight: u8) -> Option<Hit>
     ensures { result ≡ hit_in sight (code_strokes size code false beam at) }
 {
     if motion::is_drawing(code) {
         hit_only(sight, at, motion::after_code(size, code, beam))
     } else {
-        Hit::Missed
+        None
     }
 }
 
 // The hit on two codes.
 #[tactic(auto, using(crate::proofs::Laws::hit_behind), unfolding(crate::specs::Drawing::codes_strokes))]
-fn hit_codes(size: CharacterSize, a: u8, b: u8, beam: Beam, at: u16, next: u16, sight: u8) -> Hit
+fn hit_codes(
+    size: CharacterSize,
+    a: u8,
+    b: u8,
+    beam: Beam,
+    at: u16,
+    next: u16,
+    sight: u8,
+) -> Option<Hit>
     ensures { result ≡ hit_in sight (codes_strokes size a b false false beam at next) }
 {
     let end = motion::after_code(size, a, beam);
-    if motion::is_drawing(a) {
-        if sight == 1 {
-            Hit::At(at as usize, end)
-        } else {
-            hit_code(size, b, end, next, less_one(sight))
-        }
-    } else {
+    if !motion::is_drawing(a) {
         hit_code(size, b, end, next, sight)
+    } else if sight == 1 {
+        Some(Hit {
+            at: usize::from(at),
+            end,
+        })
+    } else {
+        hit_code(size, b, end, next, sight.saturating_sub(1))
     }
 }
 
 // The item that a sight falls on.
 #[tactic(auto, unfolding(crate::specs::Drawing::strokes_of, crate::specs::Drawing::hit_in))]
-pub fn hit_of(motion: Motion, beam: Beam, size: Size, at: usize, sight: u8) -> Hit
+pub fn hit_of(motion: Motion, beam: Beam, size: Size, at: usize, sight: u8) -> Option<Hit>
     ensures { result ≡ hit_in sight (strokes_of motion beam false false size at) }
 {
     match motion {
-        Motion::Still => Hit::Missed,
+        Motion::Still => None,
         Motion::To(_, trace, to) => hit_trace(trace, beam, to, address(size, at), sight),
         Motion::Codes(letters, a, b) => hit_codes(
             letters,
@@ -132,8 +129,8 @@ pub fn point(to: Beam, off: bool, at: u16) -> Item
     Item::Point {
         x: to.x % 1024,
         y: to.y % 1024,
-        off: off,
-        at: at,
+        off,
+        at,
     }
 }
 
@@ -146,8 +143,8 @@ pub fn vector(from: Beam, to: Beam, off: bool, at: u16) -> Item
         from_y: from.y % 1024,
         x: to.x % 1024,
         y: to.y % 1024,
-        off: off,
-        at: at,
+        off,
+        at,
     }
 }
 
@@ -168,11 +165,11 @@ pub fn character(size: CharacterSize, code: u8, beam: Beam, at: u16) -> Item
     ensures { result ≡ character_at size code beam at }
 {
     Item::Character {
-        size: size,
+        size,
         x: beam.x % 1024,
         y: beam.y % 1024,
-        code: code as u16,
-        at: at,
+        code: u16::from(code),
+        at,
     }
 }
 
@@ -181,11 +178,11 @@ pub fn cursor(size: CharacterSize, code: u8, beam: Beam, at: u16) -> Item
     ensures { result ≡ cursor_at size code beam at }
 {
     Item::Cursor {
-        size: size,
+        size,
         x: beam.x % 1024,
         y: beam.y % 1024,
-        code: code as u16,
-        at: at,
+        code: u16::from(code),
+        at,
     }
 }
 
@@ -194,7 +191,7 @@ pub fn cursor(size: CharacterSize, code: u8, beam: Beam, at: u16) -> Item
 pub fn has_cursor(marked: bool, code: u8) -> bool
     ensures { result ≡ has_cursor marked code }
 {
-    if marked { shows_cursor(code) } else { false }
+    marked && shows_cursor(code)
 }
 
 // What a code draws.
@@ -202,23 +199,18 @@ pub fn has_cursor(marked: bool, code: u8) -> bool
 fn code_part(size: CharacterSize, code: u8, marked: bool, beam: Beam, at: u16, nth: u8) -> Part
     ensures { items_in result ≡ upto nth (code_strokes size code marked beam at) }
 {
+    let cursor_too = has_cursor(marked, code);
     if motion::is_drawing(code) {
         let own = character(size, code, beam, at);
-        if nth == 1 {
+        if cursor_too && nth != 1 {
+            Part::Two(own, cursor(size, code, beam, at))
+        } else {
             Part::One(own)
-        } else {
-            if has_cursor(marked, code) {
-                Part::Two(own, cursor(size, code, beam, at))
-            } else {
-                Part::One(own)
-            }
         }
+    } else if cursor_too {
+        Part::One(cursor(size, code, beam, at))
     } else {
-        if has_cursor(marked, code) {
-            Part::One(cursor(size, code, beam, at))
-        } else {
-            Part::Nothing
-        }
+        Part::Nothing
     }
 }
 
@@ -239,24 +231,14 @@ fn codes_drawn(
 {
     let end = motion::after_code(size, a, beam);
     let first = code_part(size, a, c0, beam, at, sight);
-    if motion::is_drawing(a) {
-        if sight == 1 {
-            Drawn {
-                first: first,
-                second: Part::Nothing,
-            }
-        } else {
-            Drawn {
-                first: first,
-                second: code_part(size, b, c1, end, next, less_one(sight)),
-            }
-        }
+    let second = if !motion::is_drawing(a) {
+        code_part(size, b, c1, end, next, sight)
+    } else if sight == 1 {
+        Part::Nothing
     } else {
-        Drawn {
-            first: first,
-            second: code_part(size, b, c1, end, next, sight),
-        }
-    }
+        code_part(size, b, c1, end, next, sight.saturating_sub(1))
+    };
+    Drawn { first, second }
 }
 
 // What a step draws up to the item that the sight falls on, by its motion, where the beam stood, and the

@@ -5,7 +5,7 @@
 #![tactic(auto)]
 
 ghost use Rattle.std.specs.Prelude.{◌≡◌};
-ghost use Rattle.unit_head.specs.Head.{fresh_head, with_pen, with_address, switched_head};
+ghost use Rattle.unit_head.specs.Head.{fresh_head, with_address, switched_head};
 
 use ground_orders::{Mode, PenMode};
 use ground_setup::{Setup, Size};
@@ -36,6 +36,7 @@ pub struct Sense {
 }
 
 // The head. A status of 0 is no status waiting.
+// Words and head are two parameters of a call: the words are lent as a slice of any size.
 #[derive(Clone, Copy)]
 pub struct Head {
     pub state: State,
@@ -50,7 +51,7 @@ pub fn fresh_head(size: Size, cursor: Cursor) -> Head
 {
     Head {
         state: State {
-            setup: Setup { size: size },
+            setup: Setup { size },
             address: 0,
             mode: Mode::Idle,
             running: false,
@@ -71,33 +72,21 @@ pub fn fresh_head(size: Size, cursor: Cursor) -> Head
             ended: false,
             given: false,
         },
-        cursor: cursor,
+        cursor,
     }
 }
 
-// The state with another pen.
-fn with_pen(mut state: State, pen: Pen) -> State
-    ensures { result ≡ with_pen state pen }
-{
-    state.pen = pen;
-    state
-}
-
 // The state at another address.
-pub fn with_address(mut state: State, address: usize) -> State
+pub fn with_address(state: State, address: usize) -> State
     ensures { result ≡ with_address state address }
 {
-    state.address = address;
-    state
+    State { address, ..state }
 }
 
-// The head after the pen's switch was closed or opened.
+// The pen's switch closed or opened.
 #[tactic(auto, unfolding(crate::specs::Head::switched_head))]
-pub fn switch_head(mut head: Head, closed: bool) -> Head
-    ensures { result ≡ switched_head head closed }
+pub fn switch_head(head: &mut Head, closed: bool)
+    ensures { head.new ≡ switched_head head.old closed }
 {
-    let state = head.state;
-    let pen = state.pen;
-    head.state = with_pen(state, pen::after_switch(pen, closed));
-    head
+    head.state.pen = pen::after_switch(head.state.pen, closed);
 }

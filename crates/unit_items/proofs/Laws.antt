@@ -1,5 +1,6 @@
 -- A step's items, with those of its first part, say all that there is to it: two of them with the same are one. Items that are listed behind
 -- others are listed with them. Assumes nothing.
+use Rattle.std.specs.Prelude.{None, Some}
 use Prim.Native.Nat.{ℕ, ◌+◌, ◌-◌, ◌*◌, ◌/◌, ◌≤◌}
 use mathlib.Core.Path.{◌≡◌, refl, sym, ap, ◌∙◌}
 use mathlib.Core.Bool.{Bool, true, false, cond}
@@ -9,7 +10,6 @@ use lib.ListN.{length, length-append}
 use lib.Seq.{sets, length-sets}
 use borrow.Author.Tests.{le-leb, leb-true}
 use Rattle.unit_items.specs.declared.Item.{Item}
-use Rattle.unit_items.specs.declared.Listing.TheVariants.{Full, Held}
 use Rattle.unit_items.proofs.Lists.{sets_append, length_numbers, numbers_append}
 use Rattle.unit_items.specs.declared.Part.{Part}
 use Rattle.unit_items.specs.declared.Part.TheVariants.{Nothing, One, Two}
@@ -42,11 +42,11 @@ no_item : {A : Type 0} (i : Item) (is : List Item) → length (i ∷ is) ≡ 0 �
 no_item i is e = absurd (omega arith)
 
 -- a list takes no item, whatever it is told to hold
-pub none_listing : (room held : ℕ) (is : List Item) → length is ≡ 0 → listing room held is ≡ Held held
+pub none_listing : (room held : ℕ) (is : List Item) → length is ≡ 0 → listing room held is ≡ Some held
 unfolding listing
 none_listing room held [] e =
     let z : held + 0 ≡ held = omega arith in
-    simp (le-leb 0 (room / 8 - held) (omega arith)) (ap Held z)
+    simp (le-leb 0 (room / 8 - held) (omega arith)) (ap Some z)
 none_listing room held (i ∷ is) e = no_item i is e
 
 pub none_listed : (out : List ℕ) (held : ℕ) (is : List Item) → length is ≡ 0 → listed out held is ≡ out
@@ -59,11 +59,11 @@ pub record Taken (room held : ℕ) (is : List Item) (k : ℕ) : Type 0 where
   pub fit : fits room held is ≡ true
   pub more : k ≡ held + length is
 
-taken_by : (room held k : ℕ) (is : List Item) (t : Bool) → fits room held is ≡ t → cond t (Held (held + length is)) Full ≡ Held k → Taken room held is k
+taken_by : (room held k : ℕ) (is : List Item) (t : Bool) → fits room held is ≡ t → cond t (Some (held + length is)) None ≡ Some k → Taken room held is k
 taken_by room held k is true e h = record { fit = e; more = cc }
 taken_by room held k is false e h = let z : ◌≡◌ {A = ℕ} 0 1 = cc in absurd (omega arith)
 
-pub taken : (room held k : ℕ) (is : List Item) → listing room held is ≡ Held k → Taken room held is k
+pub taken : (room held k : ℕ) (is : List Item) → listing room held is ≡ Some k → Taken room held is k
 unfolding listing
 taken room held k is h = taken_by room held k is (fits room held is) refl h
 
@@ -74,15 +74,15 @@ module _ (held k m : ℕ) (is js : List Item) where
       le-leb (length (is ++ js)) (room / 8 - held)
       (simp length-append (omega (arith, t.more, leb-true (length is) (room / 8 - held) t.fit, leb-true (length js) (room / 8 - k) u.fit)))
 
-  pub listing_append : (room : ℕ) → listing room held is ≡ Held k → listing room k js ≡ Held m → listing room held (is ++ js) ≡ Held m
+  pub listing_append : (room : ℕ) → listing room held is ≡ Some k → listing room k js ≡ Some m → listing room held (is ++ js) ≡ Some m
   unfolding listing
   listing_append room e f =
       let t = taken room held k is e in
       let u = taken room k m js f in
       let n : held + length (is ++ js) ≡ m = simp length-append (omega (arith, t.more, u.more)) in
-      simp (both_fit room t u) (ap Held n)
+      simp (both_fit room t u) (ap Some n)
 
-  pub listed_append : (out : List ℕ) → listing (length out) held is ≡ Held k → listing (length out) k js ≡ Held m
+  pub listed_append : (out : List ℕ) → listing (length out) held is ≡ Some k → listing (length out) k js ≡ Some m
       → listed (listed out held is) k js ≡ listed out held (is ++ js)
   unfolding listed
   listed_append out e f =
@@ -104,39 +104,39 @@ length_listed out held is = by (fits (length out) held is)
 
 -- items listed, and items behind them: all are listed together
 pub listed_on : (out out₁ out₂ : List ℕ) (held k m : ℕ) (is js : List Item)
-    → listing (length out) held is ≡ Held k → out₁ ≡ listed out held is → listing (length out₁) k js ≡ Held m → out₂ ≡ listed out₁ k js
-    → (listing (length out) held (is ++ js) ≡ Held m) × (out₂ ≡ listed out held (is ++ js))
+    → listing (length out) held is ≡ Some k → out₁ ≡ listed out held is → listing (length out₁) k js ≡ Some m → out₂ ≡ listed out₁ k js
+    → (listing (length out) held (is ++ js) ≡ Some m) × (out₂ ≡ listed out held (is ++ js))
 listed_on out out₁ out₂ held k m is js e p f q =
     let long : length out₁ ≡ length out = ap length p ∙ length_listed out held is in
-    let g : listing (length out) k js ≡ Held m = ap (λ (n : ℕ). listing n k js) (sym long) ∙ f in
+    let g : listing (length out) k js ≡ Some m = ap (λ (n : ℕ). listing n k js) (sym long) ∙ f in
     (listing_append held k m is js (length out) e g, q ∙ ap (λ (l : List ℕ). listed l k js) p ∙ listed_append held k m is js out e g)
 
 -- where there is room a list is not full
-pub roomy : (room held : ℕ) (is : List Item) → held + length is ≤ room / 8 → listing room held is ≡ Held (held + length is)
+pub roomy : (room held : ℕ) (is : List Item) → held + length is ≤ room / 8 → listing room held is ≡ Some (held + length is)
 unfolding listing
 roomy room held is h = simp (le-leb (length is) (room / 8 - held) (omega arith))
 
-pub not_full : {A : Type 0} (room held : ℕ) (is : List Item) → held + length is ≤ room / 8 → listing room held is ≡ Full → A
+pub not_full : {A : Type 0} (room held : ℕ) (is : List Item) → held + length is ≤ room / 8 → listing room held is ≡ None → A
 not_full room held is h e =
     let r = sym (roomy room held is h) ∙ e in
     let z : ◌≡◌ {A = ℕ} 0 1 = cc in
     absurd (omega arith)
 
 -- a full list stays as it was
-full_by : (out : List ℕ) (held : ℕ) (is : List Item) (t : Bool) → cond t (Held (held + length is)) Full ≡ Full → cond t (sets out (held * 8) (numbers is)) out ≡ out
+full_by : (out : List ℕ) (held : ℕ) (is : List Item) (t : Bool) → cond t (Some (held + length is)) None ≡ None → cond t (sets out (held * 8) (numbers is)) out ≡ out
 full_by out held is true e = let z : ◌≡◌ {A = ℕ} 0 1 = cc in absurd (omega arith)
 full_by out held is false e = refl
 
-pub full_listed : (out : List ℕ) (held : ℕ) (is : List Item) → listing (length out) held is ≡ Full → listed out held is ≡ out
+pub full_listed : (out : List ℕ) (held : ℕ) (is : List Item) → listing (length out) held is ≡ None → listed out held is ≡ out
 unfolding listing listed
 full_listed out held is e = full_by out held is (fits (length out) held is) e
 
 -- where items and more behind them are listed, the first are listed alone, and then the others
 pub record Split (room held : ℕ) (is js : List Item) (m : ℕ) : Type 0 where
-  pub first : listing room held is ≡ Held (held + length is)
-  pub then : listing room (held + length is) js ≡ Held m
+  pub first : listing room held is ≡ Some (held + length is)
+  pub then : listing room (held + length is) js ≡ Some m
 
-pub listing_split : (room held m : ℕ) (is js : List Item) → listing room held (is ++ js) ≡ Held m → Split room held is js m
+pub listing_split : (room held m : ℕ) (is js : List Item) → listing room held (is ++ js) ≡ Some m → Split room held is js m
 unfolding listing
 listing_split room held m is js e =
     let t = taken room held m (is ++ js) e in
@@ -145,5 +145,5 @@ listing_split room held m is js e =
     let n : held + length is + length js ≡ m = omega (arith, t.more) in
     record {
       first = simp (le-leb (length is) (room / 8 - held) (omega arith));
-      then = simp (le-leb (length js) (room / 8 - (held + length is)) (omega arith)) (ap Held n);
+      then = simp (le-leb (length js) (room / 8 - (held + length is)) (omega arith)) (ap Some n);
     }

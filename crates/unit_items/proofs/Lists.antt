@@ -1,25 +1,20 @@
--- Runs of stores: eight in straight-line code, and one run behind the other; an item has eight numbers.
-use Prim.Native.Nat.{ℕ, suc, ◌+◌, ◌*◌}
+-- Runs of stores: one put in the middle of a list, and one behind another; an item has eight numbers.
+use Prim.Native.Nat.{ℕ, suc, ◌+◌, ◌*◌, ◌≤◌}
 use native.Mathlib.Omega.{arith}
 use mathlib.Core.Path.{◌≡◌, refl, ap, sym, ◌∙◌}
 use mathlib.Core.List.{List, [], ◌∷◌, ◌++◌, append_assoc, append-nil}
 use lib.ListN.{length, set, length-append}
+use borrow.Rule.Slice.PartMut.{put_mid}
+use Rattle.std.proofs.lemmas.List.{drop-drop}
+use Rattle.std.proofs.lemmas.List.Edits.{sets-eq}
 use lib.Seq.{sets}
 use Rattle.unit_items.specs.Items.{numbers_of, numbers}
 use Rattle.unit_items.specs.declared.Item.{Item}
 use Rattle.unit_items.specs.declared.Item.TheVariants.{Point, Vector, Character, Cursor}
 
-module _ (l : List ℕ) (i a b c d e f g h : ℕ) where
-  pub eight_stores : set (set (set (set (set (set (set (set l i a) (i + 1) b) (i + 2) c) (i + 3) d) (i + 4) e) (i + 5) f) (i + 6) g) (i + 7) h ≡ sets l i (a ∷ b ∷ c ∷ d ∷ e ∷ f ∷ g ∷ h ∷ [])
-  eight_stores =
-      let e1 : i + 1 ≡ suc i = omega arith in
-      let e2 : i + 2 ≡ suc (suc i) = omega arith in
-      let e3 : i + 3 ≡ suc (suc (suc i)) = omega arith in
-      let e4 : i + 4 ≡ suc (suc (suc (suc i))) = omega arith in
-      let e5 : i + 5 ≡ suc (suc (suc (suc (suc i)))) = omega arith in
-      let e6 : i + 6 ≡ suc (suc (suc (suc (suc (suc i))))) = omega arith in
-      let e7 : i + 7 ≡ suc (suc (suc (suc (suc (suc (suc i)))))) = omega arith in
-      simp (e1, e2, e3, e4, e5, e6, e7)
+-- a run put in the middle of a list is a run of stores
+pub run : (l vs : List ℕ) (i k : ℕ) → k ≡ length vs → i + k ≤ length l → put_mid i k l vs ≡ sets l i vs
+run l vs i k e h = rw (e, drop-drop, ← append_assoc) (sym (sets-eq vs l i (omega arith)))
 
 -- one run of stores and another behind it are one run
 pub sets_append : (xs ys l : List ℕ) (i j : ℕ) → j ≡ i + length xs → sets (sets l i xs) j ys ≡ sets l i (xs ++ ys)

@@ -1,8 +1,7 @@
 -- Worked cases of the list: the eight numbers of an item of each kind, and which items fit.
-use Rattle.std.specs.Prelude.{◌≡◌, refl, true, false, [], ◌∷◌}
+use Rattle.std.specs.Prelude.{◌≡◌, refl, true, false, [], ◌∷◌, None, Some}
 use Rattle.unit_beam.specs.declared.CharacterSize.TheVariants.{Basic, Large}
 use Rattle.unit_items.specs.declared.Item.TheVariants.{Point, Vector, Character, Cursor}
-use Rattle.unit_items.specs.declared.Listing.TheVariants.{Full, Held}
 use Rattle.unit_items.specs.Items.{numbers_of, listing}
 
 -- "kind (1 point, 2 vector, 3 character, 4 cursor), from X, from Y, to X, to Y, code, size (1 basic, 2 large), address"
@@ -19,11 +18,11 @@ item_cases = record { point = refl; point_off = refl; vector = refl; vector_off 
 
 -- two items fit sixteen numbers, and not fifteen; one fits behind one; nothing fits any list, one told to hold more than it has room for too
 pub record FitCases : Type 0 where
-  pub just : listing 16 0 (Point 5 6 false 10 ∷ Point 7 8 false 14 ∷ []) ≡ Held 2
-  pub short : listing 15 0 (Point 5 6 false 10 ∷ Point 7 8 false 14 ∷ []) ≡ Full
-  pub behind : listing 16 1 (Point 5 6 false 10 ∷ []) ≡ Held 2
-  pub beyond : listing 16 3 (Point 5 6 false 10 ∷ []) ≡ Full
-  pub nothing : listing 8 3 [] ≡ Held 3
+  pub just : listing 16 0 (Point 5 6 false 10 ∷ Point 7 8 false 14 ∷ []) ≡ Some 2
+  pub short : listing 15 0 (Point 5 6 false 10 ∷ Point 7 8 false 14 ∷ []) ≡ None
+  pub behind : listing 16 1 (Point 5 6 false 10 ∷ []) ≡ Some 2
+  pub beyond : listing 16 3 (Point 5 6 false 10 ∷ []) ≡ None
+  pub nothing : listing 8 3 [] ≡ Some 3
 
 pub fit_cases : FitCases
 unfolding listing

@@ -1,5 +1,5 @@
 -- Drawn items (01, "Drawn item") and the list that takes them.
-use Rattle.std.specs.Prelude.{ℕ, ◌+◌, ◌-◌, ◌*◌, ◌/◌, Bool, true, false, cond, List, [], ◌∷◌, ◌++◌, length, leb}
+use Rattle.std.specs.Prelude.{ℕ, ◌+◌, ◌-◌, ◌*◌, ◌/◌, Bool, true, false, cond, List, [], ◌∷◌, ◌++◌, length, leb, None, Option, Some}
 use Rattle.std.proofs.lemmas.List.Edits.{sets}
 use Rattle.unit_beam.specs.declared.CharacterSize.{CharacterSize}
 use Rattle.unit_beam.specs.declared.CharacterSize.TheVariants.{Basic, Large}
@@ -8,8 +8,6 @@ use Rattle.unit_items.specs.declared.Item.TheVariants.{Point, Vector, Character,
 use Rattle.unit_items.specs.declared.Part.{Part}
 use Rattle.unit_items.specs.declared.Part.TheVariants.{Nothing, One, Two}
 use Rattle.unit_items.specs.declared.Drawn.{Drawn}
-use Rattle.unit_items.specs.declared.Listing.{Listing}
-use Rattle.unit_items.specs.declared.Listing.TheVariants.{Full, Held}
 
 -- "size (1 basic, 2 large)"
 abbrev pub size_number : CharacterSize → ℕ
@@ -49,8 +47,8 @@ abbrev pub fits : ℕ → ℕ → List Item → Bool
 fits room held items = leb (length items) (room / 8 - held)
 
 -- how many items the list holds afterwards, if they fit
-unfoldable pub listing : ℕ → ℕ → List Item → Listing
-listing room held items = cond (fits room held items) (Held (held + length items)) Full
+unfoldable pub listing : ℕ → ℕ → List Item → Option ℕ
+listing room held items = cond (fits room held items) (Some (held + length items)) None
 
 -- the list afterwards: their numbers stand behind those of the items that it holds; a list with no room for all stays as it was
 unfoldable pub listed : List ℕ → ℕ → List Item → List ℕ

@@ -1,9 +1,9 @@
 // Drawn items: the four cases of one, what a step may draw, and the list that is lent for them, eight numbers to an item.
 #![tactic(auto)]
 
-ghost use Rattle.std.specs.Prelude.{◌≡◌, cond, [], ◌∷◌, ◌+◌, ◌-◌, ◌*◌, ◌≤◌, length, leb};
+ghost use Rattle.std.specs.Prelude.{◌≡◌, cond, [], ◌∷◌, ◌+◌, ◌-◌, ◌*◌, ◌≤◌, length};
 ghost use Rattle.std.proofs.lemmas.List.Edits.{sets};
-ghost use Rattle.unit_items.specs.Items.{size_number, off_number, numbers_of, items_in, items_of, numbers, listed, listing};
+ghost use Rattle.unit_items.specs.Items.{size_number, numbers_of, items_in, items_of, numbers, listed, listing};
 
 use unit_beam::CharacterSize;
 
@@ -41,6 +41,7 @@ pub enum Item {
 }
 
 // What coordinates draw, or one code.
+// Not two Options: a second item comes only behind a first.
 #[derive(Clone, Copy)]
 pub enum Part {
     Nothing,
@@ -55,14 +56,8 @@ pub struct Drawn {
     pub second: Part,
 }
 
-// Whether a list took the items: how many it then holds.
-#[derive(Clone, Copy)]
-pub enum Listing {
-    Full,
-    Held(usize),
-}
-
 // A character size's number.
+// No From: the number is the list's, and the size unit_beam's.
 fn size_number(size: CharacterSize) -> u16
     ensures { result ≡ size_number size }
 {
@@ -72,61 +67,48 @@ fn size_number(size: CharacterSize) -> u16
     }
 }
 
-// The number that tells whether a step left the screen.
-fn off_number(off: bool) -> u16
-    ensures { result ≡ off_number off }
-{
-    if off { 1 } else { 0 }
-}
-
-// Eight numbers are put in their place.
-fn put8(out: &mut [u16], at: usize, a: u16, b: u16, c: u16, d: u16, e: u16, f: u16, g: u16, h: u16)
-    requires { at + 8 ≤ length out.old }
-    ensures { out.new ≡ sets out.old at (a ∷ b ∷ c ∷ d ∷ e ∷ f ∷ g ∷ h ∷ []) }
-{
-    out[at] = a;
-    out[at + 1] = b;
-    out[at + 2] = c;
-    out[at + 3] = d;
-    out[at + 4] = e;
-    out[at + 5] = f;
-    out[at + 6] = g;
-    out[at + 7] = h;
-}
-
-// An item is put in its place.
-fn put_item(out: &mut [u16], at: usize, item: Item)
-    requires { at + 8 ≤ length out.old }
-    ensures { out.new ≡ sets out.old at (numbers_of item) }
+// The eight numbers of an item.
+fn numbers_of(item: Item) -> [u16; 8]
+    ensures { result ≡ numbers_of item }
 {
     match item {
-        Item::Point { x, y, off, at: p } => put8(out, at, 1, x, y, x, y, off_number(off), 0, p),
+        Item::Point { x, y, off, at } => [1, x, y, x, y, u16::from(off), 0, at],
         Item::Vector {
             from_x,
             from_y,
             x,
             y,
             off,
-            at: p,
-        } => put8(out, at, 2, from_x, from_y, x, y, off_number(off), 0, p),
+            at,
+        } => [2, from_x, from_y, x, y, u16::from(off), 0, at],
         Item::Character {
             x,
             y,
             code,
             size,
-            at: p,
-        } => put8(out, at, 3, x, y, x, y, code, size_number(size), p),
+            at,
+        } => [3, x, y, x, y, code, size_number(size), at],
         Item::Cursor {
             x,
             y,
             code,
             size,
-            at: p,
-        } => put8(out, at, 4, x, y, x, y, code, size_number(size), p),
+            at,
+        } => [4, x, y, x, y, code, size_number(size), at],
     }
 }
 
+// An item is put in its place.
+#[tactic(auto, using(crate::proofs::Lists::run, crate::proofs::Lists::eight_numbers))]
+fn put_item(out: &mut [u16], at: usize, item: Item)
+    requires { at + 8 ≤ length out.old }
+    ensures { out.new ≡ sets out.old at (numbers_of item) }
+{
+    out[at..at + 8].copy_from_slice(&numbers_of(item));
+}
+
 // How many items a part has.
+// A quantity, not the number of a kind.
 fn count(part: Part) -> usize
     ensures { (result ≡ length (items_in part)) × (result ≤ 2) }
 {
@@ -152,59 +134,47 @@ fn put_part(out: &mut [u16], at: usize, part: Part)
     }
 }
 
-// Whether so many items fit a list with room for some, behind those that it holds.
-fn has_room(held: usize, items: usize, room: usize) -> bool
-    ensures { result ≡ leb items (room - held) }
-{
-    if held <= room {
-        if items <= room - held { true } else { false }
-    } else {
-        items == 0
-    }
-}
-
 // The items are put into the list behind those that it holds, where they all fit.
+// The list and how many it holds are two parameters, as listing and listed have them and the C interface lends them.
 #[tactic(auto, using(crate::proofs::Lists::two_runs, crate::proofs::Laws::none_listing, crate::proofs::Laws::none_listed), unfolding(crate::specs::Items::items_of, crate::specs::Items::listing, crate::specs::Items::listed))]
-pub fn list(out: &mut [u16], held: usize, drawn: Drawn) -> Listing
+pub fn list(out: &mut [u16], held: usize, drawn: Drawn) -> Option<usize>
     ensures { (result ≡ listing (length out.old) held (items_of drawn)) × (out.new ≡ listed out.old held (items_of drawn)) }
 {
-    let first = drawn.first;
-    let second = drawn.second;
-    let n = count(first);
-    let all = n + count(second);
+    let n = count(drawn.first);
+    let all = n + count(drawn.second);
     if all == 0 {
-        return Listing::Held(held);
-    }
-    if has_room(held, all, out.len() / 8) {
-        put_part(out, held * 8, first);
-        put_part(out, (held + n) * 8, second);
-        Listing::Held(held + all)
+        Some(held)
+    } else if all <= (out.len() / 8).saturating_sub(held) {
+        put_part(out, held * 8, drawn.first);
+        put_part(out, (held + n) * 8, drawn.second);
+        Some(held + all)
     } else {
-        Listing::Full
+        None
     }
 }
 
 // One item is put into the list behind those that it holds, where it fits.
 #[tactic(auto, unfolding(crate::specs::Items::listing, crate::specs::Items::listed))]
-fn list_item(out: &mut [u16], held: usize, item: Item) -> Listing
+fn list_item(out: &mut [u16], held: usize, item: Item) -> Option<usize>
     ensures { (result ≡ listing (length out.old) held (item ∷ [])) × (out.new ≡ listed out.old held (item ∷ [])) }
 {
     if held < out.len() / 8 {
         put_item(out, held * 8, item);
-        Listing::Held(held + 1)
+        Some(held + 1)
     } else {
-        Listing::Full
+        None
     }
 }
 
 // An item is put into the list behind those that it holds, if it is drawn, where it fits.
+// A flag: whether the item is drawn, as its contract has it.
 #[tactic(auto, using(crate::proofs::Laws::none_listing, crate::proofs::Laws::none_listed))]
-pub fn list_where(out: &mut [u16], held: usize, drawn: bool, item: Item) -> Listing
+pub fn list_where(out: &mut [u16], held: usize, drawn: bool, item: Item) -> Option<usize>
     ensures { (result ≡ listing (length out.old) held (cond drawn (item ∷ []) [])) × (out.new ≡ listed out.old held (cond drawn (item ∷ []) [])) }
 {
     if drawn {
         list_item(out, held, item)
     } else {
-        Listing::Held(held)
+        Some(held)
     }
 }

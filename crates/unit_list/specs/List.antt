@@ -1,10 +1,9 @@
 -- Listing (02, C-21: "one lists what a given step draws").
-use Rattle.std.specs.Prelude.{ℕ, cond, List, [], leb, length}
+use Rattle.std.specs.Prelude.{ℕ, cond, List, [], leb, length, Err, None, Ok, Option, Result, Some}
 use Rattle.ground_refusals.specs.Refusals.{refusal_number}
+use Rattle.ground_refusals.specs.declared.Refusal.{Refusal}
 use Rattle.unit_items.specs.Items.{listing, listed}
 use Rattle.unit_items.specs.declared.Item.{Item}
-use Rattle.unit_items.specs.declared.Listing.{Listing}
-use Rattle.unit_items.specs.declared.Listing.TheVariants.{Full, Held}
 use Rattle.unit_head.specs.Head.{DisplayUnit, buffer_of}
 use Rattle.unit_motion.specs.declared.Motion.{Motion}
 use Rattle.unit_motion.specs.declared.Motion.TheVariants as motion
@@ -13,8 +12,6 @@ use Rattle.unit_motion.specs.declared.Moved.TheVariants as moved
 use Rattle.unit_step.specs.Step.{look_at, motion_at, items_drawn}
 use Rattle.unit_list.specs.declared.Moves.{Moves}
 use Rattle.unit_list.specs.declared.Moves.TheVariants as moves
-use Rattle.unit_list.specs.declared.ListReply.{ListReply}
-use Rattle.unit_list.specs.declared.ListReply.TheVariants as reply
 
 -- what the next step of a unit draws with a sight; a unit that does not run has no next step
 unfoldable pub next_items : DisplayUnit → ℕ → List Item
@@ -26,20 +23,20 @@ pub data ListValues : Type 0 where
   full : ListValues
   refused : ℕ → ListValues
 
-abbrev pub listing_values : Listing → ListValues
-listing_values (Held n) = ListValues.holds n
-listing_values Full = ListValues.full
+abbrev pub listing_values : Option ℕ → ListValues
+listing_values (Some n) = ListValues.holds n
+listing_values None = ListValues.full
 
-abbrev pub list_values : ListReply → ListValues
-list_values (reply.Listed l) = listing_values l
-list_values (reply.Refused r) = ListValues.refused (refusal_number r)
+abbrev pub list_values : Result (Option ℕ) Refusal → ListValues
+list_values (Ok l) = listing_values l
+list_values (Err r) = ListValues.refused (refusal_number r)
 
 -- what listing leaves: the answer, and the list lent
 pub record ListEnd : Type 0 where
   pub answer : ListValues
   pub list : List ℕ
 
-abbrev pub list_ended : ListReply → List ℕ → ListEnd
+abbrev pub list_ended : Result (Option ℕ) Refusal → List ℕ → ListEnd
 list_ended r list = record { answer = list_values r; list = list }
 
 -- LISTING what the next step draws, behind the items that the list holds; "8 a sight above 2"

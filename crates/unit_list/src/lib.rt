@@ -14,22 +14,14 @@ ghost use Rattle.unit_list.specs.List.{list_ended, unit_list, moves_to, moves_by
 use ground_look as look;
 use ground_refusals::Refusal;
 use ground_setup as setup;
-use unit_cursor as cursor;
 use unit_cursor::Cursor;
 use unit_drawing as drawing;
 use unit_head::{Head, State};
 use unit_items as items;
-use unit_items::{Drawn, Listing};
+use unit_items::Drawn;
 use unit_motion as motion;
 use unit_motion::{Motion, Moved};
 use unit_pen as pen;
-
-// What listing answers: whether the list took the items, or a refusal.
-#[derive(Clone, Copy)]
-pub enum ListReply {
-    Listed(Listing),
-    Refused(Refusal),
-}
 
 // What a step moves the beam by.
 #[derive(Clone, Copy)]
@@ -48,40 +40,40 @@ pub enum Moves {
 fn drawn_from(words: &[u16], cursor: Cursor, state: State, sight: u8) -> Drawn
     ensures { items_of result ≡ items_drawn (buffer words.now cursor) state sight }
 {
-    let setup = state.setup;
-    let size = setup.size;
-    let mode = state.mode;
-    let beam = state.beam;
-    let pen = state.pen;
+    let size = state.setup.size;
     let at = state.address;
-    let look = look::look_at(words, setup, at, mode);
-    let motion = motion::motion_of(look, mode, beam);
+    let look = look::look_at(words, state.setup, at, state.mode);
     drawing::drawn_of(
-        motion,
-        beam,
-        cursor::is_here(words, cursor, setup::wrap(size, at)),
-        cursor::is_here(words, cursor, setup::ahead(size, at, 1)),
+        motion::motion_of(look, state.mode, state.beam),
+        state.beam,
+        cursor.is_here(words, setup::wrap(size, at)),
+        cursor.is_here(words, setup::ahead(size, at, 1)),
         size,
         at,
-        pen::seen_of(pen, sight),
+        pen::seen_of(state.pen, sight),
     )
 }
 
-// Lists what the next step of the unit draws with a sight, behind the items that the list holds.
+// Lists what the next step of the unit draws with a sight, behind the items that the list holds: how many it then holds, or nothing where they
+// do not fit.
 #[tactic(auto, using(unit_items::proofs::Laws::none_listing, unit_items::proofs::Laws::none_listed), unfolding(crate::specs::List::unit_list, crate::specs::List::next_items))]
-pub fn list(words: &[u16], head: Head, sight: u8, held: usize, out: &mut [u16]) -> ListReply
-    ensures { list_ended result out.new ≡ unit_list (unit words.now head) sight held out.old }
+pub fn list(
+    words: &[u16],
+    head: &Head,
+    sight: u8,
+    held: usize,
+    out: &mut [u16],
+) -> Result<Option<usize>, Refusal>
+    ensures { list_ended result out.new ≡ unit_list (unit words.now head.now) sight held out.old }
 {
     if 2 < sight {
-        return ListReply::Refused(Refusal::UnknownSight);
+        return Err(Refusal::UnknownSight);
     }
-    let state = head.state;
-    let cursor = head.cursor;
-    if state.running {
-        let drawn = drawn_from(words, cursor, state, sight);
-        ListReply::Listed(items::list(out, held, drawn))
+    if head.state.running {
+        let drawn = drawn_from(words, head.cursor, head.state, sight);
+        Ok(items::list(out, held, drawn))
     } else {
-        ListReply::Listed(Listing::Held(held))
+        Ok(Some(held))
     }
 }
 
@@ -108,16 +100,13 @@ fn moves_by(motion: Motion) -> Moves
 
 // What the next step of the unit moves the beam by.
 #[tactic(auto, unfolding(crate::specs::List::unit_moves))]
-pub fn next_move(words: &[u16], head: Head) -> Moves
-    ensures { result ≡ unit_moves (unit words.now head) }
+pub fn next_move(words: &[u16], head: &Head) -> Moves
+    ensures { result ≡ unit_moves (unit words.now head.now) }
 {
     let state = head.state;
-    let setup = state.setup;
-    let mode = state.mode;
-    let beam = state.beam;
     if state.running {
-        let look = look::look_at(words, setup, state.address, mode);
-        moves_by(motion::motion_of(look, mode, beam))
+        let look = look::look_at(words, state.setup, state.address, state.mode);
+        moves_by(motion::motion_of(look, state.mode, state.beam))
     } else {
         Moves::Nothing
     }

@@ -1,19 +1,15 @@
 -- Loading a dump (01, "Locations and the device").
-use Rattle.std.specs.Prelude.{ℕ, Bool, true, cond, ◌&&◌, List, [], ◌∷◌, eqb, length, replicate}
+use Rattle.std.specs.Prelude.{ℕ, Bool, true, cond, ◌&&◌, List, [], ◌∷◌, eqb, length, replicate, Err, Ok, Result}
 use Rattle.std.proofs.lemmas.List.Edits.{sets}
 use Rattle.ground_location.specs.Location.{fresh_word, proper_of}
 use Rattle.ground_setup.specs.Setup.{size_of, sized_of}
 use Rattle.ground_setup.specs.declared.Size.{Size}
-use Rattle.ground_setup.specs.declared.Sized.{Sized}
-use Rattle.ground_setup.specs.declared.Sized.TheVariants as sized
 use Rattle.ground_refusals.specs.Refusals.{refusal_number}
 use Rattle.ground_refusals.specs.declared.Refusal.{Refusal}
 use Rattle.ground_refusals.specs.declared.Refusal.TheVariants.{UnusedBit, WrongCount}
 use Rattle.unit_cursor.specs.Cursor.{cursors, cursors_in}
 use Rattle.unit_head.specs.Head.{DisplayUnit, unit, fresh_head}
-use Rattle.unit_loading.specs.declared.LoadReply.{LoadReply}
-use Rattle.unit_loading.specs.declared.LoadReply.TheVariants as reply
-use Rattle.unit_loading.specs.declared.HeadLoaded.{HeadLoaded}
+use Rattle.unit_head.specs.declared.Head.{Head}
 
 -- no word of a dump has an unused bit set
 unfoldable pub all_proper : List ℕ → Bool
@@ -34,9 +30,9 @@ pub data LoadValues : Type 0 where
   loaded : LoadValues
   refused : ℕ → LoadValues
 
-abbrev pub load_values : LoadReply → LoadValues
-load_values reply.Done = LoadValues.loaded
-load_values (reply.Refused r) = LoadValues.refused (refusal_number r)
+abbrev pub load_values : Result (Unit {0}) Refusal → LoadValues
+load_values (Ok tt) = LoadValues.loaded
+load_values (Err r) = LoadValues.refused (refusal_number r)
 
 -- what loading leaves: the unit, and the answer
 pub record LoadEnd : Type 0 where
@@ -46,18 +42,18 @@ pub record LoadEnd : Type 0 where
 abbrev pub load_end : DisplayUnit → LoadValues → LoadEnd
 load_end u a = record { unit = u; answer = a }
 
--- the same of a call that gives the head beside its answer
-abbrev pub load_ended : List ℕ → HeadLoaded → LoadEnd
-load_ended words l = load_end (unit words l.head) (load_values l.answer)
+-- the same of a call that leaves the words and the head, and answers
+abbrev pub load_ended : List ℕ → Head → Result (Unit {0}) Refusal → LoadEnd
+load_ended words head r = load_end (unit words head) (load_values r)
 
 -- "A refusal returns its number only and alters nothing."
 abbrev pub load_refused : DisplayUnit → Refusal → LoadEnd
 load_refused u r = load_end u (LoadValues.refused (refusal_number r))
 
 -- "loading one gives a fresh device with these words, bad parity included"; refused "1, 10, 9 for dumps"
-abbrev pub loaded_by : DisplayUnit → List ℕ → Sized → LoadEnd
-loaded_by u dump (sized.Refused r) = load_refused u r
-loaded_by u dump (sized.Of s) =
+abbrev pub loaded_by : DisplayUnit → List ℕ → Result Size Refusal → LoadEnd
+loaded_by u dump (Err r) = load_refused u r
+loaded_by u dump (Ok s) =
     cond (eqb (length dump) (size_of s))
     (cond (all_proper dump) (load_end (fresh_loaded (length u.words) s dump) LoadValues.loaded) (load_refused u UnusedBit))
     (load_refused u WrongCount)

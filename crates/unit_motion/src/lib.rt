@@ -21,6 +21,7 @@ pub enum Trace {
 }
 
 // What moves the beam to a place.
+// Not an Option: an absolute coordinate moves it too.
 #[derive(Clone, Copy)]
 pub enum Moved {
     // An absolute coordinate.
@@ -45,10 +46,7 @@ pub enum Motion {
 pub fn is_drawing(code: u8) -> bool
     ensures { result ≡ draws code }
 {
-    match code {
-        0x00 | 0x15 | 0x2A | 0x40 => false,
-        _ => true,
-    }
+    !matches!(code, 0x00 | 0x15 | 0x2A | 0x40)
 }
 
 // The beam after a code.
@@ -76,11 +74,10 @@ fn by_increment(trace: Trace, a: u8, b: u8, beam: Beam) -> Motion
     ensures { result ≡ by_increment trace a b beam }
 {
     let shift = beam::step(beam, a, b);
-    let to = shift.to;
     Motion::To(
         Moved::Increment(shift.off),
         trace_by(beam::blanked_step(b), trace),
-        to,
+        shift.to,
     )
 }
 
@@ -90,13 +87,11 @@ fn two(mode: Mode, a: u8, b: u8, beam: Beam) -> Motion
     ensures { result ≡ two_of mode a b beam }
 {
     match mode {
-        Mode::Idle => Motion::Still,
-        Mode::Point => Motion::Still,
-        Mode::Vector => Motion::Still,
         Mode::IncrementalPoint => by_increment(Trace::Point, a, b, beam),
         Mode::IncrementalVector => by_increment(Trace::Vector, a, b, beam),
         Mode::Basic => Motion::Codes(CharacterSize::Basic, a, b),
         Mode::Large => Motion::Codes(CharacterSize::Large, a, b),
+        _ => Motion::Still,
     }
 }
 
@@ -105,23 +100,16 @@ fn two(mode: Mode, a: u8, b: u8, beam: Beam) -> Motion
 fn four(mode: Mode, a: u8, b: u8, c: u8, d: u8) -> Motion
     ensures { result ≡ four_of mode a b c d }
 {
-    match mode {
-        Mode::Idle => Motion::Still,
-        Mode::Point => Motion::To(
-            Moved::Absolute,
-            trace_by(beam::blanked_place(a), Trace::Point),
-            beam::place(a, b, c, d),
-        ),
-        Mode::Vector => Motion::To(
-            Moved::Absolute,
-            trace_by(beam::blanked_place(a), Trace::Vector),
-            beam::place(a, b, c, d),
-        ),
-        Mode::IncrementalPoint => Motion::Still,
-        Mode::IncrementalVector => Motion::Still,
-        Mode::Basic => Motion::Still,
-        Mode::Large => Motion::Still,
-    }
+    let trace = match mode {
+        Mode::Point => Trace::Point,
+        Mode::Vector => Trace::Vector,
+        _ => return Motion::Still,
+    };
+    Motion::To(
+        Moved::Absolute,
+        trace_by(beam::blanked_place(a), trace),
+        beam::place(a, b, c, d),
+    )
 }
 
 // What a step does with the beam, by its look and its mode.
@@ -130,17 +118,9 @@ pub fn motion_of(look: Look, mode: Mode, beam: Beam) -> Motion
     ensures { result ≡ motion_of look mode beam }
 {
     match look {
-        Look::Fault(_) => Motion::Still,
-        Look::Check(_) => Motion::Still,
-        Look::Enter(_, _) => Motion::Still,
-        Look::Pass(_) => Motion::Still,
-        Look::Timer(_) => Motion::Still,
-        Look::SetPen(_, _) => Motion::Still,
-        Look::End(_) => Motion::Still,
-        Look::Jump(_) => Motion::Still,
-        Look::Either(_, _) => Motion::Still,
         Look::Two(a, b, _) => two(mode, a, b, beam),
         Look::Four(a, b, c, d, _) => four(mode, a, b, c, d),
+        _ => Motion::Still,
     }
 }
 
@@ -148,10 +128,7 @@ pub fn motion_of(look: Look, mode: Mode, beam: Beam) -> Motion
 pub fn is_off(moved: Moved) -> bool
     ensures { result ≡ off_of moved }
 {
-    match moved {
-        Moved::Absolute => false,
-        Moved::Increment(off) => off,
-    }
+    matches!(moved, Moved::Increment(true))
 }
 
 // The beam after a step.
@@ -178,9 +155,7 @@ pub fn after_codes(size: CharacterSize, a: u8, b: u8, beam: Beam) -> Beam
 fn stepped_to(beam: Beam, a: u8, b: u8) -> Beam
     ensures { result ≡ stepped beam a b }
 {
-    let shift = beam::step(beam, a, b);
-    let to = shift.to;
-    to
+    beam::step(beam, a, b).to
 }
 
 // The beam after a mode's data: the four bytes of point and vector mode, or the first two.
@@ -190,10 +165,8 @@ pub fn moved_by(mode: Mode, a: u8, b: u8, c: u8, d: u8, beam: Beam) -> Beam
 {
     match mode {
         Mode::Idle => beam,
-        Mode::Point => beam::place(a, b, c, d),
-        Mode::Vector => beam::place(a, b, c, d),
-        Mode::IncrementalPoint => stepped_to(beam, a, b),
-        Mode::IncrementalVector => stepped_to(beam, a, b),
+        Mode::Point | Mode::Vector => beam::place(a, b, c, d),
+        Mode::IncrementalPoint | Mode::IncrementalVector => stepped_to(beam, a, b),
         Mode::Basic => after_codes(CharacterSize::Basic, a, b, beam),
         Mode::Large => after_codes(CharacterSize::Large, a, b, beam),
     }

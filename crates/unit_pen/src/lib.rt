@@ -2,11 +2,11 @@
 #![tactic(auto)]
 
 ghost use Rattle.std.specs.Prelude.{◌≡◌};
-ghost use Rattle.unit_pen.specs.Pen.{ordered, armed_by, timed, turned, switched, detects, seen_of, spent_pen, seen_pen, detected, transfers, transferred};
+ghost use Rattle.unit_pen.specs.Pen.{ordered, timed, switched, detects, seen_of, spent_pen, detected, transfers, transferred};
 
 use ground_orders::PenMode;
 
-#[derive(Clone, Copy)]
+#[derive(Clone, Copy, PartialEq, Eq)]
 pub struct Pen {
     pub mode: PenMode,
     // The switch is closed.
@@ -25,38 +25,12 @@ pub fn after_order(pen: Pen, mode: PenMode) -> Pen
     ensures { result ≡ ordered pen mode }
 {
     match mode {
-        PenMode::Normal => Pen {
-            mode: PenMode::Normal,
-            closed: pen.closed,
-            spent: pen.spent,
-            armed: pen.armed,
-            seen: pen.seen,
-        },
-        PenMode::Disabled => Pen {
-            mode: PenMode::Disabled,
-            closed: pen.closed,
-            spent: pen.spent,
-            armed: pen.armed,
-            seen: pen.seen,
-        },
+        PenMode::Normal | PenMode::Disabled => Pen { mode, ..pen },
         PenMode::NoSwitch => Pen {
-            mode: PenMode::NoSwitch,
-            closed: pen.closed,
-            spent: pen.spent,
-            armed: pen.armed,
+            mode,
             seen: false,
+            ..pen
         },
-    }
-}
-
-// Whether the pen is armed once the timer has been started.
-fn armed_by(pen: Pen) -> bool
-    ensures { result ≡ armed_by pen }
-{
-    if pen.armed {
-        true
-    } else {
-        if pen.closed { !pen.spent } else { false }
     }
 }
 
@@ -67,24 +41,9 @@ pub fn after_timer(pen: Pen) -> Pen
 {
     Pen {
         mode: PenMode::Normal,
-        closed: pen.closed,
-        spent: pen.spent,
-        armed: armed_by(pen),
+        armed: pen.armed || (pen.closed && !pen.spent),
         seen: false,
-    }
-}
-
-// A closure begins or ends.
-fn turned_to(pen: Pen, closed: bool) -> Pen
-    ensures { result ≡ turned pen closed }
-{
-    let mode = pen.mode;
-    Pen {
-        mode: mode,
-        closed: closed,
-        spent: false,
-        armed: false,
-        seen: pen.seen,
+        ..pen
     }
 }
 
@@ -93,17 +52,14 @@ fn turned_to(pen: Pen, closed: bool) -> Pen
 pub fn after_switch(pen: Pen, closed: bool) -> Pen
     ensures { result ≡ switched pen closed }
 {
-    if closed {
-        if pen.closed {
-            pen
-        } else {
-            turned_to(pen, true)
-        }
+    if pen.closed == closed {
+        pen
     } else {
-        if pen.closed {
-            turned_to(pen, false)
-        } else {
-            pen
+        Pen {
+            closed,
+            spent: false,
+            armed: false,
+            ..pen
         }
     }
 }
@@ -113,8 +69,8 @@ pub fn after_switch(pen: Pen, closed: bool) -> Pen
 pub fn is_detecting(pen: Pen) -> bool
     ensures { result ≡ detects pen }
 {
-    let mode = pen.mode;
-    match mode {
+    // An arm to a mode, as the definition has them.
+    match pen.mode {
         PenMode::Normal => pen.armed,
         PenMode::Disabled => false,
         PenMode::NoSwitch => true,
@@ -129,16 +85,27 @@ pub fn seen_of(pen: Pen, sight: u8) -> u8
     if is_detecting(pen) { sight } else { 0 }
 }
 
+// The closure has had its detect or its transfer.
+#[tactic(auto, unfolding(crate::specs::Pen::spent_pen))]
+fn spent_pen(pen: Pen) -> Pen
+    ensures { result ≡ spent_pen pen }
+{
+    Pen {
+        spent: true,
+        armed: false,
+        ..pen
+    }
+}
+
 // The pen after a detect.
-#[tactic(auto, unfolding(crate::specs::Pen::detected))]
+#[tactic(auto, unfolding(crate::specs::Pen::detected, crate::specs::Pen::seen_pen))]
 pub fn after_detect(pen: Pen) -> Pen
     ensures { result ≡ detected pen }
 {
-    let mode = pen.mode;
-    match mode {
+    match pen.mode {
         PenMode::Normal => spent_pen(pen),
         PenMode::Disabled => pen,
-        PenMode::NoSwitch => seen_pen(pen),
+        PenMode::NoSwitch => Pen { seen: true, ..pen },
     }
 }
 
@@ -147,8 +114,8 @@ pub fn after_detect(pen: Pen) -> Pen
 pub fn is_transferring(pen: Pen) -> bool
     ensures { result ≡ transfers pen }
 {
-    let mode = pen.mode;
-    match mode {
+    // An arm to a mode, as the definition has them.
+    match pen.mode {
         PenMode::Normal => pen.armed,
         PenMode::Disabled => false,
         PenMode::NoSwitch => !pen.seen,
@@ -160,40 +127,8 @@ pub fn is_transferring(pen: Pen) -> bool
 pub fn after_transfer(pen: Pen) -> Pen
     ensures { result ≡ transferred pen }
 {
-    let mode = pen.mode;
-    match mode {
+    match pen.mode {
         PenMode::Normal => spent_pen(pen),
-        PenMode::Disabled => pen,
-        PenMode::NoSwitch => pen,
-    }
-}
-
-// The closure has had its detect or its transfer.
-#[tactic(auto, unfolding(crate::specs::Pen::spent_pen))]
-fn spent_pen(pen: Pen) -> Pen
-    ensures { result ≡ spent_pen pen }
-{
-    let mode = pen.mode;
-    Pen {
-        mode: mode,
-        closed: pen.closed,
-        spent: true,
-        armed: false,
-        seen: pen.seen,
-    }
-}
-
-// A detect has come in no-switch mode.
-#[tactic(auto, unfolding(crate::specs::Pen::seen_pen))]
-fn seen_pen(pen: Pen) -> Pen
-    ensures { result ≡ seen_pen pen }
-{
-    let mode = pen.mode;
-    Pen {
-        mode: mode,
-        closed: pen.closed,
-        spent: pen.spent,
-        armed: pen.armed,
-        seen: true,
+        PenMode::Disabled | PenMode::NoSwitch => pen,
     }
 }

@@ -22,7 +22,7 @@ use Rattle.unit_motion.specs.Motion.{motion_of, beam_after, data_motion}
 use Rattle.unit_motion.specs.declared.Motion.{Motion}
 use Rattle.unit_drawing.specs.Drawing.{strokes_of, upto}
 use Rattle.unit_drawing.specs.declared.Hit.{Hit}
-use Rattle.unit_drawing.specs.declared.Hit.TheVariants.{Missed}
+use Rattle.std.proofs.Common.{None, Option}
 use Rattle.unit_cursor.specs.Cursor.{Buffer, cursor_here}
 use Rattle.unit_head.specs.declared.State.{State}
 use Rattle.unit_step.specs.Step.{look_at, beamed, data_to, step_to, hit_by, step_over, step_from, items_drawn}
@@ -108,7 +108,7 @@ module _ (words : List ℕ) (s : State) (h : s.address + 4 < size_of s.setup.siz
   -- by whether they are coordinates: the look is over data, with that motion, to the address behind them
   record Looked (l : Look) (t : Bool) : Type 0 where
     motion : motion_of l s.mode s.beam ≡ motion_ahead
-    onto : (b : Beam) (h : Hit) → step_to s b h l ≡ data_to s b (s.address + span_of t) h
+    onto : (b : Beam) (h : Option Hit) → step_to s b h l ≡ data_to s b (s.address + span_of t) h
 
   looked_by : (t : Bool) → placing s.mode ≡ t → plain_data t (get_or words s.address 0) (word 1) (word 2) (word 3) ≡ true → Looked (look_at words s) t
   unfolding motion_of
@@ -124,7 +124,7 @@ module _ (words : List ℕ) (s : State) (h : s.address + 4 < size_of s.setup.siz
     looked = looked_by (placing s.mode) refl p
 
     -- A STEP OVER PLAIN DATA goes on, where no sight falls on what they draw
-    pub plain_goes : hit_by s motion_ahead (seen_of s.pen sight) ≡ Missed
+    pub plain_goes : hit_by s motion_ahead (seen_of s.pen sight) ≡ None
         → step_from words s sight ≡ Goes (beamed s (s.address + span_of (placing s.mode)) (beam_after motion_ahead s.beam))
     unfolding step_from step_over
     plain_goes h = rw looked.motion (looked.onto _ _ ∙ rw h)

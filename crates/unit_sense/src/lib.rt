@@ -15,27 +15,22 @@ pub fn bits(reject: bool, check: bool, detect: bool, ended: bool) -> Sense
     ensures { result ≡ sensing reject check detect ended }
 {
     Sense {
-        reject: reject,
-        check: check,
-        detect: detect,
-        ended: ended,
+        reject,
+        check,
+        detect,
+        ended,
         given: false,
     }
 }
 
 // The bits once Sense has given them.
-pub fn given(mut sense: Sense) -> Sense
+pub fn given(sense: Sense) -> Sense
     ensures { result ≡ sense_given sense }
 {
-    sense.given = true;
-    sense
-}
-
-// Whether one of two holds.
-fn either(a: bool, b: bool) -> bool
-    ensures { result ≡ (a || b) }
-{
-    if a { true } else { b }
+    Sense {
+        given: true,
+        ..sense
+    }
 }
 
 // A stop's new bits with the standing ones.
@@ -48,9 +43,9 @@ pub fn joined(sense: Sense, check: bool, detect: bool, ended: bool) -> Sense
     } else {
         bits(
             sense.reject,
-            either(sense.check, check),
-            either(sense.detect, detect),
-            either(sense.ended, ended),
+            sense.check || check,
+            sense.detect || detect,
+            sense.ended || ended,
         )
     }
 }
@@ -73,22 +68,14 @@ fn sense_zero(sense: Sense, running: bool) -> u8
 fn is_character(mode: Mode) -> bool
     ensures { result ≡ is_character mode }
 {
-    match mode {
-        Mode::Idle => false,
-        Mode::Point => false,
-        Mode::Vector => false,
-        Mode::IncrementalPoint => false,
-        Mode::IncrementalVector => false,
-        Mode::Basic => true,
-        Mode::Large => true,
-    }
+    matches!(mode, Mode::Basic | Mode::Large)
 }
 
 // Whether Character Mode shows: on a stopped unit alone.
 fn character_shows(running: bool, mode: Mode) -> bool
     ensures { result ≡ (not running && is_character mode) }
 {
-    if running { false } else { is_character(mode) }
+    !running && is_character(mode)
 }
 
 // Sense byte 1.
@@ -107,12 +94,11 @@ fn sense_address(state: State) -> usize
     if state.running {
         return 0;
     }
-    let setup = state.setup;
-    let size = setup.size;
-    setup::wrap(size, state.address)
+    setup::wrap(state.setup.size, state.address)
 }
 
 // Puts a byte at a place of the room, where it has one.
+// An index and no get_mut: with that the place behind the room's end was not proved.
 fn put(room: &mut [u8], at: usize, byte: u8)
     ensures { room.new ≡ set room.old at byte }
 {
@@ -121,35 +107,26 @@ fn put(room: &mut [u8], at: usize, byte: u8)
     }
 }
 
-// The number, or 4 where it is more.
-fn at_most_four(n: usize) -> usize
-    ensures { result ≡ cond (ltb n 4) n 4 }
-{
-    if n < 4 { n } else { 4 }
-}
-
 // Gives as many of four bytes as fit, and answers how many.
 pub fn give(room: &mut [u8], a: u8, b: u8, c: u8, d: u8) -> usize
     ensures { (result ≡ four_count room.old) × (room.new ≡ four_in room.old a b c d) }
 {
-    let count = at_most_four(room.len());
     put(room, 0, a);
     put(room, 1, b);
     put(room, 2, c);
     put(room, 3, d);
-    count
+    room.len().min(4)
 }
 
 // Gives as many of the sense bytes as fit, and answers how many.
 pub fn give_sense(room: &mut [u8], state: State, sense: Sense) -> usize
     ensures { (result ≡ four_count room.old) × (room.new ≡ sense_in room.old state sense) }
 {
-    let mode = state.mode;
     let address = sense_address(state);
     give(
         room,
         sense_zero(sense, state.running),
-        sense_one(sense, state.running, mode),
+        sense_one(sense, state.running, state.mode),
         (address / 0x100) as u8,
         (address % 0x100) as u8,
     )

@@ -18,7 +18,7 @@ use Rattle.unit_motion.specs.declared.Motion.TheVariants as motion
 use Rattle.unit_items.specs.declared.Item.{Item}
 use Rattle.unit_drawing.specs.Drawing.{strokes_of, upto}
 use Rattle.unit_drawing.specs.declared.Hit.{Hit}
-use Rattle.unit_drawing.specs.declared.Hit.TheVariants as hit
+use Rattle.std.proofs.Common.{None, Option, Some}
 use Rattle.unit_cursor.specs.Cursor.{Buffer}
 use Rattle.unit_head.specs.declared.State.{State}
 use Rattle.unit_step.specs.declared.Stop.{Stop}
@@ -102,11 +102,11 @@ module _ (s s' : State) where
   either_runs target next true h = cc
   either_runs target next false h = cc
 
-  data_runs : (b : Beam) (next : ℕ) (h : Hit) → data_to s b next h ≡ Goes s' → s'.running ≡ s.running
-  data_runs b next hit.Missed h = cc
-  data_runs b next (hit.At a e) h = stops_goes h
+  data_runs : (b : Beam) (next : ℕ) (h : Option Hit) → data_to s b next h ≡ Goes s' → s'.running ≡ s.running
+  data_runs b next None h = cc
+  data_runs b next (Some e) h = stops_goes h
 
-  look_runs : (b : Beam) (h : Hit) (l : Look) → step_to s b h l ≡ Goes s' → s'.running ≡ s.running
+  look_runs : (b : Beam) (h : Option Hit) (l : Look) → step_to s b h l ≡ Goes s' → s'.running ≡ s.running
   look_runs b h (look.Fault f) e = stops_goes e
   look_runs b h (look.Check a) e = stops_goes e
   look_runs b h (look.Enter m next) e = cc

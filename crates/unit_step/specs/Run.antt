@@ -55,12 +55,7 @@ pub record GoesOver (words sights : List ℕ) (s : State) (k : ℕ) (s' : State)
 -- in idle mode nothing is drawn
 abbrev pub is_idle : Mode → Bool
 is_idle mode.Idle = true
-is_idle mode.Point = false
-is_idle mode.Vector = false
-is_idle mode.IncrementalPoint = false
-is_idle mode.IncrementalVector = false
-is_idle mode.Basic = false
-is_idle mode.Large = false
+is_idle m = false
 
 -- how many of the sights are used by steps from idle mode, up to the first from another
 unfoldable pub idle_steps : List ℕ → List ℕ → State → ℕ

@@ -1,5 +1,5 @@
 -- One step of a unit that runs (01, "One step of regeneration" and "The pen"): what it makes of the state, and what it draws.
-use Rattle.std.specs.Prelude.{ℕ, Bool, false, cond, List}
+use Rattle.std.specs.Prelude.{ℕ, Bool, false, cond, List, None, Option, Some}
 use Rattle.ground_orders.specs.declared.Mode.{Mode}
 use Rattle.ground_orders.specs.declared.Mode.TheVariants.{Idle}
 use Rattle.ground_groups.specs.Groups.{words_group}
@@ -13,7 +13,6 @@ use Rattle.unit_motion.specs.Motion.{motion_of, beam_after}
 use Rattle.unit_motion.specs.declared.Motion.{Motion}
 use Rattle.unit_drawing.specs.Drawing.{strokes_of, upto, hit_in}
 use Rattle.unit_drawing.specs.declared.Hit.{Hit}
-use Rattle.unit_drawing.specs.declared.Hit.TheVariants as hit
 use Rattle.unit_items.specs.declared.Item.{Item}
 use Rattle.unit_cursor.specs.Cursor.{Buffer, cursor_here}
 use Rattle.unit_head.specs.declared.State.{State}
@@ -51,9 +50,9 @@ abbrev pub struck : State → ℕ → Beam → State
 struck s a b = record { setup = s.setup; address = a; mode = s.mode; running = false; beam = b; pen = detected s.pen }
 
 -- data: a detect, or on to the next address with the beam at b
-abbrev pub data_to : State → Beam → ℕ → Hit → Stepped
-data_to s b next hit.Missed = stepped.Goes (beamed s next b)
-data_to s b next (hit.At a e) = stepped.Stops (struck s a e) stop.Detect
+abbrev pub data_to : State → Beam → ℕ → Option Hit → Stepped
+data_to s b next None = stepped.Goes (beamed s next b)
+data_to s b next (Some h) = stepped.Stops (struck s h.at h.end) stop.Detect
 
 -- a Transfer On No Detect, by whether it goes
 abbrev pub either_by : State → ℕ → ℕ → Bool → Stepped
@@ -62,7 +61,7 @@ either_by s target next goes =
 
 -- what a look makes of the state; h is the item that the sight falls on, b where data leave the beam. "Any fault stops regeneration at A
 -- with no status (house)"; "bad parity stops with Data Check at that byte"; "End Order Sequence stops in idle, .. the address after it"
-abbrev pub step_to : State → Beam → Hit → Look → Stepped
+abbrev pub step_to : State → Beam → Option Hit → Look → Stepped
 step_to s b h (look.Fault f) = stepped.Stops (stopped s s.address s.mode) (stop.Fault f)
 step_to s b h (look.Check a) = stepped.Stops (stopped s a s.mode) stop.DataCheck
 step_to s b h (look.Enter m next) = stepped.Goes (state_at s next m)
@@ -76,7 +75,7 @@ step_to s b h (look.Two x y next) = data_to s b next h
 step_to s b h (look.Four x₁ x₂ y₁ y₂ next) = data_to s b next h
 
 -- the item that what is seen falls on, by the motion
-abbrev pub hit_by : State → Motion → ℕ → Hit
+abbrev pub hit_by : State → Motion → ℕ → Option Hit
 hit_by s m seen = hit_in seen (strokes_of m s.beam false false s.setup.size s.address)
 
 -- a step over what stands at its place, with a sight

@@ -33,6 +33,7 @@ pub enum Stop {
 }
 
 // What a step makes of the state.
+// No Result: a stop is no error, and holds the state too.
 #[derive(Clone, Copy)]
 pub enum Stepped {
     Goes(State),
@@ -43,31 +44,17 @@ pub enum Stepped {
 pub fn is_idle(mode: Mode) -> bool
     ensures { result ≡ is_idle mode }
 {
-    match mode {
-        Mode::Idle => true,
-        Mode::Point => false,
-        Mode::Vector => false,
-        Mode::IncrementalPoint => false,
-        Mode::IncrementalVector => false,
-        Mode::Basic => false,
-        Mode::Large => false,
-    }
+    mode == Mode::Idle
 }
 
 // The state at another address and mode.
 fn at_place(state: State, address: usize, mode: Mode) -> State
     ensures { result ≡ state_at state address mode }
 {
-    let setup = state.setup;
-    let beam = state.beam;
-    let pen = state.pen;
     State {
-        setup: setup,
-        address: address,
-        mode: mode,
-        running: state.running,
-        beam: beam,
-        pen: pen,
+        address,
+        mode,
+        ..state
     }
 }
 
@@ -75,72 +62,72 @@ fn at_place(state: State, address: usize, mode: Mode) -> State
 fn with_pen(state: State, address: usize, pen: Pen) -> State
     ensures { result ≡ penned state address pen }
 {
-    let setup = state.setup;
-    let beam = state.beam;
     State {
-        setup: setup,
-        address: address,
+        address,
         mode: Mode::Idle,
-        running: state.running,
-        beam: beam,
-        pen: pen,
+        pen,
+        ..state
     }
 }
 
 // The state at another address with the beam elsewhere.
-fn with_beam(mut state: State, address: usize, beam: Beam) -> State
+fn with_beam(state: State, address: usize, beam: Beam) -> State
     ensures { result ≡ beamed state address beam }
 {
-    state.address = address;
-    state.beam = beam;
-    state
+    State {
+        address,
+        beam,
+        ..state
+    }
 }
 
 // The state stopped at an address in a mode.
 fn stopped_at(state: State, address: usize, mode: Mode) -> State
     ensures { result ≡ stopped state address mode }
 {
-    let mut s = at_place(state, address, mode);
-    s.running = false;
-    s
+    State {
+        address,
+        mode,
+        running: false,
+        ..state
+    }
 }
 
 // The state after a detect.
-fn struck_at(mut state: State, address: usize, beam: Beam) -> State
+fn struck_at(state: State, address: usize, beam: Beam) -> State
     ensures { result ≡ struck state address beam }
 {
-    let pen = state.pen;
-    state.address = address;
-    state.running = false;
-    state.beam = beam;
-    state.pen = pen::after_detect(pen);
-    state
+    State {
+        beam,
+        pen: pen::after_detect(state.pen),
+        ..stopped_at(state, address, state.mode)
+    }
 }
 
 // What data make of the state: a hit, or the beam where they leave it.
-fn data_by(state: State, to: Beam, next: usize, hit: Hit) -> Stepped
+fn data_by(state: State, to: Beam, next: usize, hit: Option<Hit>) -> Stepped
     ensures { result ≡ data_to state to next hit }
 {
     match hit {
-        Hit::Missed => Stepped::Goes(with_beam(state, next, to)),
-        Hit::At(address, end) => Stepped::Stops(struck_at(state, address, end), Stop::Detect),
+        None => Stepped::Goes(with_beam(state, next, to)),
+        Some(hit) => Stepped::Stops(struck_at(state, hit.at, hit.end), Stop::Detect),
     }
 }
 
 // What a Transfer On No Detect makes of the state.
+// A flag: it is what the pen answers.
 fn either_by(state: State, target: usize, next: usize, goes: bool) -> Stepped
     ensures { result ≡ either_by state target next goes }
 {
-    let pen = state.pen;
     if goes {
-        Stepped::Goes(with_pen(state, target, pen::after_transfer(pen)))
+        Stepped::Goes(with_pen(state, target, pen::after_transfer(state.pen)))
     } else {
         Stepped::Goes(at_place(state, next, Mode::Idle))
     }
 }
 
 // What a look makes of the state: a hit, or the beam where its data leave it.
-fn step_to(state: State, to: Beam, hit: Hit, look: Look) -> Stepped
+fn step_to(state: State, to: Beam, hit: Option<Hit>, look: Look) -> Stepped
     ensures { result ≡ step_to state to hit look }
 {
     let mode = state.mode;
@@ -163,13 +150,10 @@ fn step_to(state: State, to: Beam, hit: Hit, look: Look) -> Stepped
 }
 
 // The item that what is seen falls on, by the motion.
-fn hit_at(state: State, motion: Motion, seen: u8) -> Hit
+fn hit_at(state: State, motion: Motion, seen: u8) -> Option<Hit>
     ensures { result ≡ hit_by state motion seen }
 {
-    let beam = state.beam;
-    let setup = state.setup;
-    let size = setup.size;
-    drawing::hit_of(motion, beam, size, state.address, seen)
+    drawing::hit_of(motion, state.beam, state.setup.size, state.address, seen)
 }
 
 // The step from a state: what stands there, and what the pen is shown.
@@ -177,12 +161,8 @@ fn hit_at(state: State, motion: Motion, seen: u8) -> Hit
 pub fn step_from(words: &[u16], state: State, sight: u8) -> Stepped
     ensures { result ≡ step_from words.now state sight }
 {
-    let setup = state.setup;
-    let mode = state.mode;
-    let beam = state.beam;
-    let pen = state.pen;
-    let look = look::look_at(words, setup, state.address, mode);
-    let motion = motion::motion_of(look, mode, beam);
-    let hit = hit_at(state, motion, pen::seen_of(pen, sight));
-    step_to(state, motion::beam_after(motion, beam), hit, look)
+    let look = look::look_at(words, state.setup, state.address, state.mode);
+    let motion = motion::motion_of(look, state.mode, state.beam);
+    let hit = hit_at(state, motion, pen::seen_of(state.pen, sight));
+    step_to(state, motion::beam_after(motion, state.beam), hit, look)
 }

@@ -2,7 +2,9 @@
 use Prim.Native.Nat.{ℕ, ◌+◌, ◌<◌}
 use native.Mathlib.Omega.{arith}
 use mathlib.Core.Path.{◌≡◌, refl, sym, ap, subst, ◌∙◌}
-use mathlib.Core.Bool.{true, false, false≢true}
+use mathlib.Core.Bool.{Bool, true, false, not, ◌&&◌, false≢true}
+use lib.Dec.{eqb}
+use borrow.Author.Tests.{eqb-true}
 use mathlib.Core.List.{List}
 use lib.ListN.{length, drop, get_or}
 use Rattle.ground_location.specs.Location.{data_of}
@@ -15,7 +17,7 @@ use Rattle.unit_motion.specs.Motion.{two_of, beam_after, data_motion}
 use Rattle.unit_motion.specs.declared.Motion.{Motion}
 use Rattle.unit_motion.specs.declared.Motion.TheVariants.{Still}
 use Rattle.unit_drawing.specs.Drawing.{strokes_of, hit_in}
-use Rattle.unit_drawing.specs.declared.Hit.TheVariants.{Missed}
+use Rattle.std.proofs.Common.{None}
 use Rattle.unit_drawing.proofs.Laws.{unseen}
 use Rattle.unit_head.specs.declared.State.{State}
 use Rattle.unit_step.specs.Step.{beamed, hit_by, step_from}
@@ -44,6 +46,14 @@ idle_is mode.IncrementalPoint e = absurd (false≢true e)
 idle_is mode.IncrementalVector e = absurd (false≢true e)
 idle_is mode.Basic e = absurd (false≢true e)
 idle_is mode.Large e = absurd (false≢true e)
+
+-- a number that is no other than 0
+unseen_is : (n : ℕ) → not (eqb n 0) ≡ false → n ≡ 0
+unseen_is n h = by (eqb n 0) refl h
+  where
+    by : (t : Bool) → eqb n 0 ≡ t → not t ≡ false → n ≡ 0
+    by true e h = eqb-true n 0 e
+    by false e h = absurd (false≢true (sym h))
 
 module _ (words sights : List ℕ) (s : State) where
   pub covered_none : Covered words sights s 0 s
@@ -80,33 +90,36 @@ module _ (words sights : List ℕ) (s : State) where
       as_here a b k = subst (λ (z : State). Covered words sights s (i + 1) z) (sym (ap (λ (z : State). beamed z a b) c.same)) k
 
       step_over_lem : plain_data (placing s.mode) (get_or words x.address 0) (get_or words (x.address + 1) 0) (get_or words (x.address + 2) 0) (get_or words (x.address + 3) 0) ≡ true
-          → hit_by here motion_here (seen_of s.pen (get_or sights i 0)) ≡ Missed
+          → hit_by here motion_here (seen_of s.pen (get_or sights i 0)) ≡ None
           → Covered words sights s (i + 1) (beamed s (x.address + span_of (placing s.mode)) (beam_after motion_here x.beam))
       step_over_lem p m =
           covered_more x (beamed s (x.address + span_of (placing s.mode)) (beam_after motion_here x.beam)) c refl
           (subst (λ (z : State). step_from words z (get_or sights i 0) ≡ Goes (beamed s (x.address + span_of (placing s.mode)) (beam_after motion_here x.beam))) (sym c.same)
           (plain_goes words here (omega arith) p (get_or sights i 0) m))
 
-      -- data that move the beam, of which the pen sees nothing
+      -- in idle mode nothing is drawn
+      idle_motion : is_idle s.mode ≡ true → motion_here ≡ Still
+      unfolding two_of
+      idle_motion e =
+          ap (λ (m : Mode). data_motion m (data_of (get_or words x.address 0)) (data_of (get_or words (x.address + 1) 0)) (data_of (get_or words (x.address + 2) 0)) (data_of (get_or words (x.address + 3) 0)) x.beam)
+          (idle_is s.mode e)
+
+      missed : (t : Bool) → is_idle s.mode ≡ t → (not t && not (eqb (seen_of s.pen (get_or sights i 0)) 0)) ≡ false
+          → hit_by here motion_here (seen_of s.pen (get_or sights i 0)) ≡ None
+      unfolding strokes_of hit_in
+      missed true e h = rw (idle_motion e) refl
+      missed false e h =
+          let z : seen_of s.pen (get_or sights i 0) ≡ 0 = unseen_is (seen_of s.pen (get_or sights i 0)) h in
+          rw z (unseen (strokes_of motion_here x.beam false false s.setup.size x.address))
+
+      -- data of which the pen sees nothing
+      pub covered_on : plain_data (placing s.mode) (get_or words x.address 0) (get_or words (x.address + 1) 0) (get_or words (x.address + 2) 0) (get_or words (x.address + 3) 0) ≡ true
+          → (not (is_idle s.mode) && not (eqb (seen_of s.pen (get_or sights i 0)) 0)) ≡ false
+          → Covered words sights s (i + 1) (beamed x (x.address + span_of (placing s.mode)) (beam_after motion_here x.beam))
+      covered_on p h = as_here _ _ (step_over_lem p (missed (is_idle s.mode) refl h))
+
+      -- and where it sees nothing in any mode
       pub covered_moved : plain_data (placing s.mode) (get_or words x.address 0) (get_or words (x.address + 1) 0) (get_or words (x.address + 2) 0) (get_or words (x.address + 3) 0) ≡ true
           → seen_of s.pen (get_or sights i 0) ≡ 0
           → Covered words sights s (i + 1) (beamed x (x.address + span_of (placing s.mode)) (beam_after motion_here x.beam))
       covered_moved p z = as_here _ _ (step_over_lem p (rw z (unseen (strokes_of motion_here x.beam false false s.setup.size x.address))))
-
-      -- data of idle mode
-      module _ (e : is_idle s.mode ≡ true) where
-        idle_placing : placing s.mode ≡ false
-        idle_placing = ap placing (idle_is s.mode e)
-
-        idle_motion : motion_here ≡ Still
-        unfolding two_of
-        idle_motion =
-            ap (λ (m : Mode). data_motion m (data_of (get_or words x.address 0)) (data_of (get_or words (x.address + 1) 0)) (data_of (get_or words (x.address + 2) 0)) (data_of (get_or words (x.address + 3) 0)) x.beam)
-            (idle_is s.mode e)
-
-        pub covered_passed : plain_data false (get_or words x.address 0) (get_or words (x.address + 1) 0) 0 0 ≡ true
-            → Covered words sights s (i + 1) (beamed x (x.address + 2) x.beam)
-        unfolding strokes_of hit_in beam_after
-        covered_passed p =
-            let k = step_over_lem (rw idle_placing p) (rw idle_motion refl) in
-            as_here _ _ (rw (idle_motion, idle_placing) at k)

@@ -5,7 +5,7 @@
 
 ghost use Rattle.std.specs.Prelude.{◌≡◌, ◌<◌, ◌≤◌};
 ghost use Rattle.ground_setup.specs.Setup.{Inside};
-ghost use Rattle.validator_walks.specs.Places.{place, mode_number, half_of, places_of, number_of, address_of};
+ghost use Rattle.validator_walks.specs.Places.{place, half_of, places_of, number_of, address_of};
 
 use ground_orders::Mode;
 use ground_setup as setup;
@@ -25,26 +25,11 @@ pub fn places_of(size: Size) -> usize
     7 * half_of(size)
 }
 
-// A mode's number.
-fn mode_number(mode: Mode) -> usize
-    ensures { (result ≡ mode_number mode) × (result < 7) }
-{
-    match mode {
-        Mode::Idle => 0,
-        Mode::Point => 1,
-        Mode::Vector => 2,
-        Mode::IncrementalPoint => 3,
-        Mode::IncrementalVector => 4,
-        Mode::Basic => 5,
-        Mode::Large => 6,
-    }
-}
-
 // The number of the place at an address in a mode.
 pub fn number_of(size: Size, at: usize, mode: Mode) -> usize
     ensures { result ≡ number_of size (place at mode) }
 {
-    mode_number(mode) * half_of(size) + at / 2
+    mode as usize * half_of(size) + at / 2
 }
 
 // The address of a place's number.

@@ -8,11 +8,14 @@ use native.Mathlib.Nat.{not-suc-le-zero, le_of_suc-le-suc, eq-or-lt_of_le}
 use native.Mathlib.Omega.{arith}
 use native.Mathlib.Decide.{ℕ_discrete, dec_lt}
 use lib.ListN.{length, drop}
+use Rattle.ground_look.specs.Look.{fault_number}
+use Rattle.ground_look.specs.declared.Fault.{Fault}
 use Rattle.validator_walks.specs.Steps.{Step, Leads}
 use Rattle.validator_walks.specs.Walks.{Reach, Reached, Counted, Clean, First}
+use Rattle.validator_walks.proofs.Unique.{same_fault, fault_lt}
 use Rattle.validator_store.specs.Store.{bit_of, tally, entry_at, cleared}
 use Rattle.validator_store.proofs.Bits.{bit_of_lt, length_cleared, cleared_bit, cleared_tally, drop_cleared}
-use Rattle.validator_search.specs.Invariant.{slot, Plan, Fitted, Grown, Visited, Ready, Opened, Mid, Next, Closed, Entered, Blamed, none}
+use Rattle.validator_search.specs.Invariant.{slot, Plan, Fitted, Grown, Visited, Ready, Opened, Mid, Next, Closed, Entered, Blamed, none, key_at}
 use Rattle.validator_search.proofs.Growth.{unchanged}
 
 module _ (P : Plan) (S : Fitted P) where
@@ -30,7 +33,7 @@ module _ (P : Plan) (S : Fitted P) (From : ℕ → Type 0) (s s' : List ℕ) (si
     (led : (q : ℕ) → From q → Leads (P.step (entry_at s (slot (not side) P.base P.cap rest))) q)
     (fate : Closed P s' (entry_at s (slot (not side) P.base P.cap rest)) ⊎ Blamed P key' (entry_at s (slot (not side) P.base P.cap rest)))
     (lower : key' ≤ key)
-    (best : key' < none → (p : ℕ) × (n : ℕ) × Reach P.step P.start k p × (P.step p ≡ Step.faulty n) × (key' ≡ 16 * P.address p + n))
+    (best : key' < none → (p : ℕ) × (f : Fault) × Reach P.step P.start k p × (P.step p ≡ Step.faulty f) × (key' ≡ key_at (P.address p) f))
     (room : 2 * (rest + t') ≤ 2 + tally s' P.twos) where
   turn_next : (j : ℕ) → j < t' → Reach P.step P.start (suc k) (entry_at s' (slot side P.base P.cap j))
   turn_next j h =
@@ -95,7 +98,7 @@ module _ (P : Plan) (S : Fitted P) (From : ℕ → Type 0) (s s' : List ℕ) (si
 -- no key is as high as `none`
 module _ (P : Plan) (S : Fitted P) where
   blameless : (p : ℕ) → p < P.places → Blamed P none p → ⊥
-  blameless p h b = omega (arith, b.2, S.number p b.0 h b.1, S.address_lt p h)
+  blameless p h b = omega (arith, b.2, fault_lt b.0, S.address_lt p h)
 
   module _ (s : List ℕ) (side : Bool) (t k c : ℕ) (M : Mid P s side zero t k none c) where
     -- after a level without a fault, whatever is reached in k steps was gone on from
@@ -170,23 +173,24 @@ module _ (P : Plan) (S : Fitted P) where
 
   -- a fault ends the search
   module _ (s : List ℕ) (side : Bool) (t k key c : ℕ) (M : Mid P s side zero t k key c) (low : key < none) where
-    pub first : (n a : ℕ) → n < 16 → key ≡ 16 * a + n → First P.step P.start P.address n a k
-    first n a h e =
+    pub first : (f : Fault) (a : ℕ) → key ≡ key_at a f → First P.step P.start P.address f a k
+    first f a e =
         let w = M.best low in
-        let l = S.number w.0 w.1 (reach_lt P S k w.0 w.2) w.3 in
-        let same-n : w.1 ≡ n = omega (arith, w.4) in
+        let l = fault_lt w.1 in
+        let u = fault_lt f in
+        let same : fault_number w.1 ≡ fault_number f = omega (arith, w.4) in
         record {
           met = w.0;
           here = w.2;
-          faulty = w.3 ∙ ap Step.faulty same-n;
+          faulty = w.3 ∙ ap Step.faulty (same_fault w.1 f same);
           at = omega (arith, w.4);
-          earlier = λ j p m lt r f. (M.before j p lt r).0 m f;
-          lowest = λ p m r f. ⊎_elim
-              (λ d. absurd (d.0 m f))
-              (⊎_elim (λ x. absurd (not-suc-le-zero x.1))
+          earlier = λ j p g lt r x. (M.before j p lt r).0 g x;
+          lowest = λ p g r x. ⊎_elim
+              (λ d. absurd (d.0 g x))
+              (⊎_elim (λ y. absurd (not-suc-le-zero y.1))
               (λ b.
-              let same-m : b.0 ≡ m = same_fault (sym b.1 ∙ f) in
-              let small : m < 16 = S.number p m (reach_lt P S k p r) f in
+              let same-g : fault_number b.0 ≡ fault_number g = ap fault_number (one_fault (sym b.1 ∙ x)) in
+              let small = fault_lt g in
               elim (dec_lt a (P.address p)) [
                 | yes q ↦ inl q
                 | no q ↦ inr (omega (arith, b.2), omega (arith, b.2))
@@ -194,8 +198,8 @@ module _ (P : Plan) (S : Fitted P) where
               (M.here p r);
         }
       where
-        same_fault : {x y : ℕ} → ◌≡◌ {A = Step ℕ} (Step.faulty x) (Step.faulty y) → x ≡ y
-        same_fault q = cc
+        one_fault : {x y : Fault} → ◌≡◌ {A = Step ℕ} (Step.faulty x) (Step.faulty y) → x ≡ y
+        one_fault q = cc
 
 -- a turn as the code takes it: p is the last place left of the level
 module _ (P : Plan) (S : Fitted P) (s : List ℕ) (side : Bool) (rest t k key c p : ℕ)
@@ -219,14 +223,14 @@ module _ (P : Plan) (S : Fitted P) (s : List ℕ) (side : Bool) (rest t k key c 
     tail = O.grown.tail;
   }
 
-  pub blamed : (n key' : ℕ) → P.step p ≡ Step.faulty n → key' ≤ key → key' ≤ 16 * P.address p + n → (key' ≡ 16 * P.address p + n) ⊎ (key' ≡ key)
+  pub blamed : (f : Fault) (key' : ℕ) → P.step p ≡ Step.faulty f → key' ≤ key → key' ≤ key_at (P.address p) f → (key' ≡ key_at (P.address p) f) ⊎ (key' ≡ key)
       → Next P s s side rest t k key' c
-  blamed n key' f l₁ l₂ d = record {
+  blamed f key' e' l₁ l₂ d = record {
     mid = turn P S (λ x. ⊥) s s side rest t t k key key' c M (unchanged P (λ x. ⊥) s side rest t (λ x z. absurd z))
         (λ q z. absurd z)
-        (inr (subst (Blamed P key') (sym e) (n, f, l₂)))
+        (inr (subst (Blamed P key') (sym e) (f, e', l₂)))
         l₁
-        (λ h. ⊎_elim (λ q. (p, n, here_p, f, q)) (λ q. let b = M.best (omega arith) in (b.0, b.1, b.2, b.3, q ∙ b.4)) d)
+        (λ h. ⊎_elim (λ q. (p, f, here_p, e', q)) (λ q. let b = M.best (omega arith) in (b.0, b.1, b.2, b.3, q ∙ b.4)) d)
         (omega (arith, M.room));
     low = omega arith;
     long = refl;

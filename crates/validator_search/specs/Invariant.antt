@@ -1,14 +1,15 @@
 -- For the proof of the search alone; what a search answers is in `specs/Search.antt`. A plan (the graph and the store's layout), what one growth
 -- does, and what holds in the midst of a level.
-use Rattle.std.specs.Prelude.{◌≡◌, ◌⊎◌, Bool, true, false, not, List, ℕ, suc, ◌+◌, ◌*◌, ◌-◌, ◌≤◌, ◌<◌, length, drop}
+use Rattle.std.specs.Prelude.{◌≡◌, ◌⊎◌, Bool, true, false, not, List, ℕ, suc, ◌+◌, ◌*◌, ◌-◌, ◌≤◌, ◌<◌, length, drop, None, Option, Some, Err, Ok, Result}
 use Rattle.ground_setup.specs.declared.Setup.{Setup}
+use Rattle.ground_look.specs.Look.{fault_number}
+use Rattle.ground_look.specs.declared.Fault.{Fault}
 use Rattle.validator_walks.specs.Places.{places_of, address_of}
 use Rattle.validator_walks.specs.Steps.{Step, Leads, way_of, as_step}
 use Rattle.validator_walks.specs.Walks.{Reach, Reached}
 use Rattle.validator_store.specs.Layout.{twos_of, base_of, cap_of}
 use Rattle.validator_store.specs.Store.{bit_of, tally, entry_at}
-use Rattle.validator_search.specs.declared.Expanded.{Expanded}
-use Rattle.validator_search.specs.declared.Expanded.TheVariants.{Grew, Blame}
+use Rattle.validator_search.specs.declared.Met.{Met}
 
 -- where entry j of a stack lies: from the low end up, or from the high end down
 abbrev pub slot : Bool → ℕ → ℕ → ℕ → ℕ
@@ -38,15 +39,23 @@ plan_of image su start = record {
   cap = cap_of su.size;
 }
 
--- the key of no fault: a fault's key is 16 times its address and its number
+-- a fault's key: of two faults the one told first has the lower
+abbrev pub key_at : ℕ → Fault → ℕ
+key_at address fault = 16 * address + fault_number fault
+
+-- no fault's key is as high
 abbrev pub none : ℕ
 none = 16777216
+
+-- the key of the first fault met
+abbrev pub key_of : Option Met → ℕ
+key_of None = none
+key_of (Some met) = key_at met.at met.fault
 
 -- what the search asks of a plan
 pub record Fitted (P : Plan) : Type 0 where
   pub led_lt : (p q : ℕ) → p < P.places → Leads (P.step p) q → q < P.places
   pub two_lt : (p a b : ℕ) → p < P.places → P.step p ≡ Step.either a b → (a < P.twos) × (b < P.twos)
-  pub number : (p n : ℕ) → p < P.places → P.step p ≡ Step.faulty n → n < 16
   pub address_lt : (p : ℕ) → p < P.places → P.address p < 65536
   pub start_lt : P.start < P.places
   pub twos_le : P.twos ≤ P.places
@@ -83,24 +92,25 @@ pub record Ready (P : Plan) (s : List ℕ) (rest t p : ℕ) : Type 0 where
 
 -- a place gone on from: it has no fault, and the store grew by what it leads to
 pub record Opened (P : Plan) (p : ℕ) (s s' : List ℕ) (side : Bool) (rest t t' : ℕ) : Type 0 where
-  pub sound : (n : ℕ) → P.step p ≡ Step.faulty n → ⊥
+  pub sound : (f : Fault) → P.step p ≡ Step.faulty f → ⊥
   pub grown : Grown P (Leads (P.step p)) s s' side rest t t'
   pub room : 2 * t' + tally s P.twos ≤ 2 * t + 2 + tally s' P.twos
 
-abbrev pub Expands : Plan → ℕ → List ℕ → List ℕ → Bool → ℕ → ℕ → Expanded → Type 0
-Expands P p s s' side rest t (Grew t') = Opened P p s s' side rest t t'
-Expands P p s s' side rest t (Blame n) = (P.step p ≡ Step.faulty n) × (s' ≡ s)
+-- a place gone on from, or its fault
+abbrev pub Expands : Plan → ℕ → List ℕ → List ℕ → Bool → ℕ → ℕ → Result ℕ Fault → Type 0
+Expands P p s s' side rest t (Ok t') = Opened P p s s' side rest t t'
+Expands P p s s' side rest t (Err f) = (P.step p ≡ Step.faulty f) × (s' ≡ s)
 
 -- a place that was gone on from: it has no fault, and what it leads to is marked
 abbrev pub Closed : Plan → List ℕ → ℕ → Type 0
-Closed P s p = ((n : ℕ) → P.step p ≡ Step.faulty n → ⊥) × ((q : ℕ) → Leads (P.step p) q → bit_of s q ≡ 1)
+Closed P s p = ((f : Fault) → P.step p ≡ Step.faulty f → ⊥) × ((q : ℕ) → Leads (P.step p) q → bit_of s q ≡ 1)
 
 abbrev pub Entered : Plan → List ℕ → Bool → ℕ → ℕ → Type 0
 Entered P s side n p = (j : ℕ) × (j < n) × (entry_at s (slot side P.base P.cap j) ≡ p)
 
 -- its fault is not below the lowest found
 abbrev pub Blamed : Plan → ℕ → ℕ → Type 0
-Blamed P key p = (n : ℕ) × (P.step p ≡ Step.faulty n) × (key ≤ 16 * P.address p + n)
+Blamed P key p = (f : Fault) × (P.step p ≡ Step.faulty f) × (key ≤ key_at (P.address p) f)
 
 -- in the midst of level k: m places of it are left, t of the next are found, key is the lowest fault met, and c places were marked at its beginning
 pub record Mid (P : Plan) (s : List ℕ) (side : Bool) (m t k key c : ℕ) : Type 0 where
@@ -112,7 +122,7 @@ pub record Mid (P : Plan) (s : List ℕ) (side : Bool) (m t k key c : ℕ) : Typ
   pub before : (j p : ℕ) → j < k → Reach P.step P.start j p → Closed P s p
   pub here : (p : ℕ) → Reach P.step P.start k p → Closed P s p ⊎ (Entered P s (not side) m p ⊎ Blamed P key p)
   pub began : bit_of s P.start ≡ 1
-  pub best : key < none → (p : ℕ) × (n : ℕ) × Reach P.step P.start k p × (P.step p ≡ Step.faulty n) × (key ≡ 16 * P.address p + n)
+  pub best : key < none → (p : ℕ) × (f : Fault) × Reach P.step P.start k p × (P.step p ≡ Step.faulty f) × (key ≡ key_at (P.address p) f)
   pub room : 2 * (m + t) ≤ 2 + tally s P.twos
   pub count : tally s P.places ≡ c + t
 
@@ -122,3 +132,8 @@ pub record Next (P : Plan) (s s' : List ℕ) (side : Bool) (rest t k key c : ℕ
   pub low : key ≤ none
   pub long : length s' ≡ length s
   pub tail : drop (P.base + 3 * P.cap) s' ≡ drop (P.base + 3 * P.cap) s
+
+-- in the midst of some level
+abbrev pub Amid : List ℕ → Setup → List ℕ → Bool → ℕ → ℕ → ℕ → Type 0
+Amid image su s side m t key =
+    (start : ℕ) × (k : ℕ) × (c : ℕ) × (start < places_of su.size) × (key ≤ none) × Mid (plan_of image su start) s side m t k key c

@@ -5,95 +5,90 @@
 // the midst of a level, over any graph.
 #![tactic(auto)]
 
-ghost use Rattle.std.specs.Prelude.{◌≡◌, true, List, ℕ, ◌+◌, ◌≤◌, ◌<◌, length, drop};
+ghost use Rattle.std.specs.Prelude.{◌≡◌, true, ◌⊎◌, ◌↔◌, IsTrue, List, ℕ, ◌+◌, ◌≤◌, ◌<◌, length, drop};
+ghost use Rattle.ground_look.specs.Look.{fault_number};
 ghost use Rattle.validator_walks.specs.Places.{places_of};
 ghost use Rattle.validator_store.specs.Layout.{base_of, cap_of, top_of};
 ghost use Rattle.validator_store.specs.Store.{bit_of};
-ghost use Rattle.validator_search.specs.Invariant.{slot, plan_of, Fitted, Visited, Ready, Expands, Mid, Next, none};
+ghost use Rattle.validator_search.specs.Invariant.{slot, plan_of, Fitted, Visited, Ready, Expands, Mid, Next, Amid, none, key_of};
 ghost use Rattle.validator_search.specs.Search.{RightBy, fitting, SearchAnswered};
 
+use ground_look::Fault;
 use ground_setup::{Setup, Size};
 use validator_places as places;
 use validator_steps as steps;
 use validator_store as store;
-use validator_walks::{Answer, Way};
+use validator_walks::{Verdict, Way};
 
-// What a search gives.
+// A fault that is met, and its address. A struct of its own: a Place has a mode there, a Hit a beam.
 #[derive(Clone, Copy)]
-pub enum Searched {
-    // The answer on all walks.
-    Found(Answer),
-    // The start is no place, or the store is too short.
-    NoRoom,
+struct Met {
+    pub at: usize,
+    pub fault: Fault,
 }
 
-// What going on from one place gives.
-#[derive(Clone, Copy)]
-enum Expanded {
-    // The entries of the next level.
-    Grew(usize),
-    // A fault, by its number.
-    Blame(u8),
+impl Met {
+    // Whether a fault is told before another: at a lower address, or there by no higher number.
+    fn is_before(self, other: Met) -> bool
+        ensures { IsTrue result ↔ (self.at < other.at) ⊎ ((self.at ≡ other.at) × (fault_number self.fault ≤ fault_number other.fault)) }
+    {
+        self.at < other.at || (self.at == other.at && u8::from(self.fault) <= u8::from(other.fault))
+    }
 }
 
-// What is found in a level: the entries of the next one, and the key of the lowest fault.
+// What is found in a level: the entries of the next one, and the first fault.
 #[derive(Clone, Copy)]
 struct Gathered {
     pub t: usize,
-    pub key: usize,
+    pub first: Option<Met>,
 }
 
-// The key of no fault: a fault's key is 16 times its address and its number.
-const NONE: usize = 16777216;
-
-// Where entry j of a stack lies.
+// Where entry j of a stack lies. A flag: the two stacks change places from level to level.
 fn slot_at(up: bool, size: Size, j: usize) -> usize
     requires { j < cap_of size }
     ensures { result ≡ slot up (base_of size) (cap_of size) j }
 {
     let base = store::base_of(size);
-    let last = store::last_of(size);
     if up {
         base + 3 * j
     } else {
-        base + 3 * (last - j)
+        base + 3 * (store::last_of(size) - j)
     }
 }
 
 // Place q is marked and put on the stack `side`, unless it is marked already. The number of entries there is returned.
-fn visit(store: &mut [u8], setup: Setup, side: bool, rest: usize, t: usize, q: usize) -> usize
-    requires { (q < places_of setup.size) × ((top_of setup.size ≤ length store.old) × ((bit_of store.old q ≡ 0 → rest + t < cap_of setup.size))) }
-    ensures { (image : List ℕ) → (start : ℕ) → Fitted (plan_of image setup start) → Visited (plan_of image setup start) q store.old store.new side rest t result }
+// The store stands beside the plain parameters: in a struct its `&mut` needs clauses of its own in each contract.
+fn visit(store: &mut [u8], setup: Setup, side: bool, t: usize, q: usize) -> usize
+    requires { (q < places_of setup.size) × ((top_of setup.size ≤ length store.old) × ((bit_of store.old q ≡ 0 → t < cap_of setup.size))) }
+    ensures { (image : List ℕ) → (start rest : ℕ) → Fitted (plan_of image setup start) → (bit_of store.old q ≡ 0 → rest + t < cap_of setup.size) → Visited (plan_of image setup start) q store.old store.new side rest t result }
 {
-    let size = setup.size;
-    if store::seen(store, q) == 1 {
+    if store::seen(store, q) {
         return t;
     }
     store::mark(store, q);
-    store::save(store, slot_at(side, size, t), q);
+    store::save(store, slot_at(side, setup.size, t), q);
     t + 1
 }
 
-// One place is gone on from.
+// One place is gone on from. The entries of the next level are returned, or its fault.
 fn expand(
     image: &[u8],
     setup: Setup,
     store: &mut [u8],
     side: bool,
-    rest: usize,
     t: usize,
     p: usize,
-) -> Expanded
-    requires { Ready (plan_of image.now setup 0) store.old rest t p }
-    ensures { (start : ℕ) → start < places_of setup.size → Expands (plan_of image.now setup start) p store.old store.new side rest t result }
+) -> Result<usize, Fault>
+    requires { Ready (plan_of image.now setup 0) store.old 0 t p }
+    ensures { (start rest : ℕ) → start < places_of setup.size → Ready (plan_of image.now setup start) store.old rest t p → Expands (plan_of image.now setup start) p store.old store.new side rest t result }
 {
     match steps::way_at(image, setup, p) {
-        Way::Faulty(n) => Expanded::Blame(n),
-        Way::Stops => Expanded::Grew(t),
-        Way::To(q) => Expanded::Grew(visit(store, setup, side, rest, t, q)),
+        Way::Faulty(fault) => Err(fault),
+        Way::Stops => Ok(t),
+        Way::To(q) => Ok(visit(store, setup, side, t, q)),
         Way::Either(a, b) => {
-            let u = visit(store, setup, side, rest, t, a);
-            Expanded::Grew(visit(store, setup, side, rest, u, b))
+            let u = visit(store, setup, side, t, a);
+            Ok(visit(store, setup, side, u, b))
         }
     }
 }
@@ -102,107 +97,88 @@ fn expand(
 fn turn(
     image: &[u8],
     setup: Setup,
-    start: usize,
     store: &mut [u8],
     side: bool,
     rest: usize,
-    t: usize,
-    k: usize,
-    key: usize,
-    c: usize,
+    found: Gathered,
 ) -> Gathered
-    requires { (start < places_of setup.size) × ((key ≤ none) × Mid (plan_of image.now setup start) store.old side (rest + 1) t k key c) }
-    ensures { Next (plan_of image.now setup start) store.old store.new side rest result.t k result.key c }
+    requires { Amid image.now setup store.old side (rest + 1) found.t (key_of found.first) }
+    ensures { (start k c : ℕ) → start < places_of setup.size → Mid (plan_of image.now setup start) store.old side (rest + 1) found.t k (key_of found.first) c → key_of found.first ≤ none → Next (plan_of image.now setup start) store.old store.new side rest result.t k (key_of result.first) c }
 {
-    let size = setup.size;
-    let at = slot_at(!side, size, rest);
-    let p = store::load(store, at);
-    match expand(image, setup, store, side, rest, t, p) {
-        Expanded::Grew(n) => Gathered { t: n, key: key },
-        Expanded::Blame(n) => {
-            let x = 16 * places::address_of(size, p) + n as usize;
-            if x < key {
-                Gathered { t: t, key: x }
-            } else {
-                Gathered { t: t, key: key }
+    let p = store::load(store, slot_at(!side, setup.size, rest));
+    match expand(image, setup, store, side, found.t, p) {
+        Ok(t) => Gathered { t, ..found },
+        Err(fault) => {
+            let met = Met {
+                at: places::address_of(setup.size, p),
+                fault,
+            };
+            match found.first {
+                Some(first) if first.is_before(met) => found,
+                _ => Gathered {
+                    first: Some(met),
+                    ..found
+                },
             }
         }
     }
 }
 
-// All m places of level k are gone on from.
-fn level(
-    image: &[u8],
-    setup: Setup,
-    start: usize,
-    store: &mut [u8],
-    side: bool,
-    m: usize,
-    k: usize,
-    c: usize,
-) -> Gathered
-    requires { (start < places_of setup.size) × Mid (plan_of image.now setup start) store.old side m 0 k none c }
-    ensures { Next (plan_of image.now setup start) store.old store.new side 0 result.t k result.key c }
+// All m places of a level are gone on from.
+fn level(image: &[u8], setup: Setup, store: &mut [u8], side: bool, m: usize) -> Gathered
+    requires { Amid image.now setup store.old side m 0 none }
+    ensures { (start k c : ℕ) → start < places_of setup.size → Mid (plan_of image.now setup start) store.old side m 0 k none c → Next (plan_of image.now setup start) store.old store.new side 0 result.t k (key_of result.first) c }
 {
-    let mut left = m;
-    let mut t = 0;
-    let mut key = NONE;
-    while 0 < left {
-        left = left - 1;
-        let r = turn(image, setup, start, store, side, left, t, k, key, c);
-        t = r.t;
-        key = r.key;
+    let mut found = Gathered { t: 0, first: None };
+    for rest in (0..m).rev() {
+        found = turn(image, setup, store, side, rest, found);
     }
-    Gathered { t: t, key: key }
+    found
 }
 
 // The bytes in use are cleared and the start is marked, the only place of level 0.
-fn begin(image: &[u8], setup: Setup, start: usize, store: &mut [u8]) -> usize
+fn begin(setup: Setup, start: usize, store: &mut [u8]) -> usize
     requires { (start < places_of setup.size) × (top_of setup.size ≤ length store.old) }
-    ensures { Next (plan_of image.now setup start) store.old store.new true result 0 0 none result }
+    ensures { (image : List ℕ) → Next (plan_of image setup start) store.old store.new true result 0 0 none result }
 {
     let size = setup.size;
     store::clear(store, store::base_of(size) + 3 * (store::last_of(size) + 1));
-    visit(store, setup, false, 0, 0, start)
+    visit(store, setup, false, 0, start)
 }
 
 // Gathered by level from the start.
-fn explore(image: &[u8], setup: Setup, start: usize, store: &mut [u8]) -> Answer
+fn explore(image: &[u8], setup: Setup, start: usize, store: &mut [u8]) -> Verdict
     requires { (start < places_of setup.size) × (top_of setup.size ≤ length store.old) }
     ensures right { RightBy image.now setup start result }
     ensures tail { drop (top_of setup.size) store.new ≡ drop (top_of setup.size) store.old }
 {
-    let mut m = begin(image, setup, start, store);
+    let mut m = begin(setup, start, store);
     let mut side = true;
     let mut k = 0;
     let mut c = m;
+    // A while: it ends where a level is empty.
     while 0 < m {
-        let r = level(image, setup, start, store, side, m, k, c);
-        let key = r.key;
-        if key < NONE {
-            return Answer::Fault((key % 16) as u8, key / 16, k);
+        let found = level(image, setup, store, side, m);
+        if let Some(first) = found.first {
+            return Verdict::Fault(first.fault, first.at, k);
         }
         side = !side;
-        m = r.t;
-        c = c + m;
-        k = k + 1;
+        m = found.t;
+        c += m;
+        k += 1;
     }
-    Answer::Passed(c)
+    Verdict::Passed(c)
 }
 
 // The answer on all walks of an image from a start place, in a store whose room is zero afterwards.
-pub fn search(image: &[u8], setup: Setup, start: usize, store: &mut [u8]) -> Searched
+pub fn search(image: &[u8], setup: Setup, start: usize, store: &mut [u8]) -> Option<Verdict>
     ensures { SearchAnswered (fitting setup start (length store.old)) image.now setup start store.old store.new result }
 {
-    let size = setup.size;
-    if places::places_of(size) <= start {
-        return Searched::NoRoom;
-    }
-    let room = store::room_of(size);
-    if store.len() < room {
-        return Searched::NoRoom;
+    let room = store::room_of(setup.size);
+    if places::places_of(setup.size) <= start || store.len() < room {
+        return None;
     }
     let answer = explore(image, setup, start, store);
     store::clear(store, room);
-    Searched::Found(answer)
+    Some(answer)
 }

@@ -22,6 +22,7 @@ fn block_of(size: Size, number: usize) -> usize
 }
 
 // The mode of a block.
+// A match: Mode is another crate's type, and a TryFrom would refuse the numbers above.
 fn mode_of(block: usize) -> Mode
     ensures { result ≡ mode_of block }
 {
@@ -41,22 +42,21 @@ fn way_by(size: Size, mode: Mode, found: Look) -> Way
     ensures { result ≡ way_by size (step_by mode found) }
 {
     match found {
-        Look::Fault(fault) => Way::Faulty(look::fault_number(fault)),
-        Look::Check(_) => Way::Stops,
+        Look::Fault(fault) => Way::Faulty(fault),
+        Look::Check(_) | Look::End(_) => Way::Stops,
         Look::Enter(entered, next) => Way::To(places::number_of(size, next, entered)),
-        Look::Pass(next) => Way::To(places::number_of(size, next, Mode::Idle)),
-        Look::Timer(next) => Way::To(places::number_of(size, next, Mode::Idle)),
-        Look::SetPen(_, next) => Way::To(places::number_of(size, next, Mode::Idle)),
-        Look::End(_) => Way::Stops,
-        Look::Jump(target) => Way::To(places::number_of(size, target, Mode::Idle)),
+        Look::Pass(next) | Look::Timer(next) | Look::SetPen(_, next) | Look::Jump(next) => {
+            Way::To(places::number_of(size, next, Mode::Idle))
+        }
         Look::Either(target, next) => {
             Way::Either(
                 places::number_of(size, target, Mode::Idle),
                 places::number_of(size, next, Mode::Idle),
             )
         }
-        Look::Two(_, _, next) => Way::To(places::number_of(size, next, mode)),
-        Look::Four(_, _, _, _, next) => Way::To(places::number_of(size, next, mode)),
+        Look::Two(_, _, next) | Look::Four(_, _, _, _, next) => {
+            Way::To(places::number_of(size, next, mode))
+        }
     }
 }
 
@@ -68,5 +68,5 @@ pub fn way_at(image: &[u8], setup: Setup, number: usize) -> Way
     let size = setup.size;
     let mode = mode_of(block_of(size, number));
     let at = places::address_of(size, number);
-    way_by(size, mode, look::look_in(image, setup, at, mode))
+    way_by(size, mode, look::look_at(image, setup, at, mode))
 }

@@ -2,132 +2,60 @@
 use mathlib.Core.Path.{◌≡◌, refl, sym, ap, ◌∙◌}
 use mathlib.Core.Logic.{◌⊎◌, inl, inr, ⊎_elim, ◌≢◌}
 use mathlib.Core.List.{List, ◌++◌}
-use Prim.Native.Nat.{ℕ, zero, suc, ◌+◌, ◌*◌, ◌-◌, ◌/◌, ◌%◌, ◌^◌, ◌≤◌, ◌<◌, min}
-use native.Mathlib.Nat.{min-eq_left, one-mul, two-pow-succ, not-suc-le-zero, le_of_suc-le-suc}
-use native.Mathlib.Numerals.{one-add}
+use Prim.Native.Nat.{ℕ, zero, suc, ◌+◌, ◌*◌, ◌/◌, ◌%◌, ◌^◌, ◌≤◌, ◌<◌, min}
+use native.Mathlib.Nat.{min-eq_left, one-mul, not-suc-le-zero}
 use native.Mathlib.Omega.{arith}
 use native.Mathlib.Decide.{ℕ_discrete, dec_le}
-use lib.Dec.{eqb, leb}
-use lib.Pow.{shr-shr, shl_exact}
+use lib.Dec.{leb}
+use lib.Pow.{shl_exact}
 use lib.ListN.{length, get_or, set, drop, replicate, length-append, length-set, length-drop, length-replicate, drop_of_length-le, get_or-replicate, get_or-append, get_or-eq_default}
-use lib.Seq.{get_or-set_same, get_or-set_other, drop-set-lt, drop_at, set-get_or, set_out}
-use borrow.Author.Tests.{eq-eqb, ne_eqb, le-leb}
+use lib.Seq.{get_or-set_same, get_or-set_other, drop-set-lt, drop_at, set_out}
+use borrow.Author.Tests.{le-leb}
 use Rattle.ground_words.proofs.Laws.{either_way}
-use Rattle.validator_store.specs.Store.{bit, bit_of, marked, tally, entry_at, saved, cleared}
-
-bit_zero : (b : ℕ) → bit 0 b ≡ b % 2
-unfolding bit
-bit_zero b = omega arith
-
-bit_suc : (i b : ℕ) → bit (suc i) b ≡ bit i (b / 2)
-unfolding bit
-bit_suc i b = ap (λ (x : ℕ). x % 2) (ap (λ (x : ℕ). b / 2 ^ x) (sym (one-add i)) ∙ sym (shr-shr b 1 i))
-
-bit_lt : (i b : ℕ) → bit i b < 2
-unfolding bit
-bit_lt i b = omega arith
-
-bit_of_zero : (i : ℕ) → bit i 0 ≡ 0
-bit_of_zero zero = bit_zero 0
-bit_of_zero (suc i) = bit_suc i 0 ∙ bit_of_zero i
-
--- half of a number with a power added
-half_pow : (j b : ℕ) → (b + 2 ^ suc j) / 2 ≡ b / 2 + 2 ^ j
-half_pow j b = rw two-pow-succ (omega arith)
-
-bit_same : (j b : ℕ) → bit j b ≡ 0 → bit j (b + 2 ^ j) ≡ 1
-bit_same zero b h = rw bit_zero (omega (arith, rw bit_zero at h))
-bit_same (suc j) b h = rw (bit_suc, half_pow) (bit_same j (b / 2) (rw bit_suc at h))
-
-bit_other : (i j b : ℕ) → i ≢ j → bit j b ≡ 0 → bit i (b + 2 ^ j) ≡ bit i b
-bit_other zero zero b n h = absurd (n refl)
-bit_other zero (suc j) b n h = simp (bit_zero, two-pow-succ) (omega arith)
-bit_other (suc i) zero b n h =
-    simp bit_suc (ap (bit i) (omega (arith, rw bit_zero at h)))
-bit_other (suc i) (suc j) b n h =
-    simp (bit_suc, half_pow) (bit_other i j (b / 2) (λ e. n (ap suc e)) (rw bit_suc at h))
-
--- a bit that was 0 can be added within the same width
-bit_room : (k j b : ℕ) → j < k → b < 2 ^ k → bit j b ≡ 0 → b + 2 ^ j < 2 ^ k
-bit_room zero j b l u h = absurd (not-suc-le-zero l)
-bit_room (suc k) zero b l u h = rw two-pow-succ (omega (arith, rw bit_zero at h, rw two-pow-succ at u))
-bit_room (suc k) (suc j) b l u h =
-    let r : b / 2 + 2 ^ j < 2 ^ k = bit_room k j (b / 2) (le_of_suc-le-suc l) (omega (arith, rw two-pow-succ at u)) (rw bit_suc at h) in
-    simp two-pow-succ (omega arith)
+use Rattle.std.specs.Int.{bit_at}
+use Rattle.std.specs.Int.Bits.{bit_or}
+use Rattle.std.proofs.lemmas.Nat.Bits.{bit_at-lt, bit_at-zero, bit_at_or, bit_at-pow_same, bit_at-pow_other}
+use Rattle.validator_store.specs.Store.{bit_of, marked, tally, entry_at, saved, cleared}
 
 -- a one shifted within a byte
 one_shifted : (k : ℕ) → k < 8 → 1 * 2 ^ k % 256 ≡ 2 ^ k
 one_shifted k h = shl_exact {a = 1} 1 k 8 (omega arith) (omega arith) ∙ one-mul (2 ^ k)
 
--- what is added to a byte so that bit j of it is set: the bit where it is free, nothing where it is not
-abbrev pub missing : ℕ → ℕ → ℕ
-missing j b = (1 - bit j b) * 2 ^ j % 256
-
-missing_free : (j b : ℕ) → j < 8 → bit j b ≡ 0 → missing j b ≡ 2 ^ j
-missing_free j b l e = rw e (one_shifted j l)
-
-missing_set : (j b : ℕ) → ¬ (bit j b ≡ 0) → missing j b ≡ 0
-missing_set j b n =
-    let e : bit j b ≡ 1 = omega (arith, bit_lt j b) in
-    rw e (omega arith)
-
-pub missing_lt : (j b : ℕ) → j < 8 → b < 256 → b + missing j b < 256
-missing_lt j b l u =
-    elim (ℕ_discrete (bit j b) 0) [
-      | yes e ↦ rw (missing_free j b l e) (bit_room 8 j b l u e)
-      | no n ↦ rw (missing_set j b n) (omega arith)
-    ]
-
 pub bit_of_lt : (s : List ℕ) (p : ℕ) → bit_of s p < 2
 unfolding bit_of
-bit_of_lt s p = bit_lt _ _
+bit_of_lt s p = bit_at-lt _ _
 
 pub outside_bit : (s : List ℕ) (p : ℕ) → length s ≤ p / 8 → bit_of s p ≡ 0
 unfolding bit_of
-outside_bit s p h = ap (bit (p % 8)) (get_or-eq_default s 0 h) ∙ bit_of_zero (p % 8)
+outside_bit s p h = ap (λ (b : ℕ). bit_at b (p % 8)) (get_or-eq_default s 0 h) ∙ bit_at-zero (p % 8)
 
-pub set_missing : (s : List ℕ) (p : ℕ) → set s (p / 8) (get_or s (p / 8) 0 + missing (p % 8) (get_or s (p / 8) 0)) ≡ marked s p
-unfolding bit_of marked
-set_missing s p =
-    let b : ℕ = get_or s (p / 8) 0 in
-    elim (ℕ_discrete (bit (p % 8) b) 0) [
-      | yes e ↦ rw (missing_free (p % 8) b (omega arith) e, eq-eqb (bit (p % 8) b) 0 e)
-      | no n ↦
-          rw (missing_set (p % 8) b n, ne_eqb (bit (p % 8) b) 0 n)
-          (ap (set s (p / 8)) (nothing_more b) ∙ set-get_or s (p / 8) 0)
-    ]
-  where
-    nothing_more : (a : ℕ) → a + 0 ≡ a
-    nothing_more a = omega arith
+pub set_marked : (s : List ℕ) (p : ℕ) → set s (p / 8) (bit_or (get_or s (p / 8) 0) (1 * 2 ^ (p % 8) % 256)) ≡ marked s p
+unfolding marked
+set_marked s p = rw (one_shifted (p % 8) (omega arith)) refl
 
 pub outside_marked : (s : List ℕ) (p : ℕ) → length s ≤ p / 8 → marked s p ≡ s
 unfolding marked
-outside_marked s p h = either_way (λ (l : List ℕ). l ≡ s) (eqb (bit_of s p) 0) (set_out s (p / 8) _ h) refl
+outside_marked s p h = set_out s (p / 8) _ h
 
 module _ (s : List ℕ) (p : ℕ) (inside : p < 8 * length s) (free : bit_of s p ≡ 0) where
-  marked_set : marked s p ≡ set s (p / 8) (get_or s (p / 8) 0 + 2 ^ (p % 8))
-  unfolding marked
-  marked_set = simp (eq-eqb (bit_of s p) 0 free)
-
   pub marked_same : bit_of (marked s p) p ≡ 1
-  unfolding bit_of
+  unfolding bit_of marked
   marked_same =
       let i : p / 8 < length s = omega arith in
-      rw (marked_set, get_or-set_same s (p / 8)) (bit_same (p % 8) _ free)
+      let b : ℕ = get_or s (p / 8) 0 in
+      rw (get_or-set_same s (p / 8), bit_at_or, bit_at-pow_same (p % 8)) (omega (arith, bit_at-lt b (p % 8)))
 
   pub marked_other : (q : ℕ) → q ≢ p → bit_of (marked s p) q ≡ bit_of s q
-  unfolding bit_of
+  unfolding bit_of marked
   marked_other q n =
       let i : p / 8 < length s = omega arith in
-      rw marked_set
-      (elim (ℕ_discrete (q / 8) (p / 8)) [
+      let b : ℕ = get_or s (p / 8) 0 in
+      elim (ℕ_discrete (q / 8) (p / 8)) [
         | yes e ↦
-            ap (λ (x : ℕ). bit (q % 8) (get_or (set s (p / 8) (get_or s (p / 8) 0 + 2 ^ (p % 8))) x 0)) e
-            ∙ ap (bit (q % 8)) (get_or-set_same s (p / 8) _ 0 i)
-            ∙ bit_other (q % 8) (p % 8) (get_or s (p / 8) 0) (λ r. n (omega arith)) free
-            ∙ ap (λ (x : ℕ). bit (q % 8) (get_or s x 0)) (sym e)
-        | no ne ↦ ap (bit (q % 8)) (get_or-set_other s (p / 8) (q / 8) _ 0 ne)
-      ])
+            let other : bit_at (2 ^ (p % 8)) (q % 8) ≡ 0 = bit_at-pow_other (p % 8) (q % 8) (λ r. n (omega arith)) in
+            rw (e, get_or-set_same s (p / 8), bit_at_or, other) (omega arith)
+        | no ne ↦ ap (λ (b : ℕ). bit_at b (q % 8)) (get_or-set_other s (p / 8) (q / 8) _ 0 ne)
+      ]
 
   pub marked_keeps : (q : ℕ) → bit_of s q ≡ 1 → bit_of (marked s p) q ≡ 1
   marked_keeps q h =
@@ -167,17 +95,16 @@ tally_le s (suc n) = omega (arith, tally_le s n, bit_of_lt s n)
 
 pub length_marked : (s : List ℕ) (p : ℕ) → length (marked s p) ≡ length s
 unfolding marked
-length_marked s p = either_way (λ (l : List ℕ). length l ≡ length s) (eqb (bit_of s p) 0) (length-set s (p / 8) _) refl
+length_marked s p = length-set s (p / 8) _
 
 pub drop_marked : (s : List ℕ) (p n : ℕ) → p / 8 < n → drop n (marked s p) ≡ drop n s
 unfolding marked
-drop_marked s p n h = either_way (λ (l : List ℕ). drop n l ≡ drop n s) (eqb (bit_of s p) 0) (drop-set-lt n s (p / 8) _ h) refl
+drop_marked s p n h = drop-set-lt n s (p / 8) _ h
 
 -- a byte behind that of a place that is marked
 marked_byte : (s : List ℕ) (p k : ℕ) → p / 8 < k → get_or (marked s p) k 0 ≡ get_or s k 0
 unfolding marked
-marked_byte s p k h =
-    either_way (λ (l : List ℕ). get_or l k 0 ≡ get_or s k 0) (eqb (bit_of s p) 0) (get_or-set_other s (p / 8) k _ 0 (λ e. omega arith)) refl
+marked_byte s p k h = get_or-set_other s (p / 8) k _ 0 (λ e. omega arith)
 
 -- a store of an entry is three stores of a byte, or none
 abbrev three : List ℕ → ℕ → ℕ → List ℕ
@@ -209,7 +136,7 @@ saved_byte s i v k h =
 
 pub bit_of_saved : (s : List ℕ) (i v p : ℕ) → p / 8 < i → bit_of (saved s i v) p ≡ bit_of s p
 unfolding bit_of
-bit_of_saved s i v p h = ap (bit (p % 8)) (saved_byte s i v (p / 8) (inl h))
+bit_of_saved s i v p h = ap (λ (b : ℕ). bit_at b (p % 8)) (saved_byte s i v (p / 8) (inl h))
 
 pub tally_saved : (s : List ℕ) (i v n : ℕ) → n ≤ 8 * i → tally (saved s i v) n ≡ tally s n
 unfolding tally
@@ -269,9 +196,9 @@ module _ (s : List ℕ) (n : ℕ) where
   zeroed_bit : (p : ℕ) → p / 8 < min n (length s) → bit_of (cleared s n) p ≡ 0
   unfolding bit_of cleared
   zeroed_bit p l =
-      ap (bit (p % 8))
+      ap (λ (b : ℕ). bit_at b (p % 8))
       (get_or-append (replicate (min n (length s)) 0) (drop n s) 0 (p / 8) (rw length-replicate l) ∙ get_or-replicate (min n (length s)) (p / 8) 0 0 l)
-      ∙ bit_of_zero (p % 8)
+      ∙ bit_at-zero (p % 8)
 
   pub cleared_bit : (p : ℕ) → p / 8 < n → bit_of (cleared s n) p ≡ 0
   cleared_bit p h =

@@ -1,6 +1,6 @@
 -- The layout has room for what it holds. Assumes nothing.
 use mathlib.Core.Path.{◌≡◌, refl}
-use Prim.Native.Nat.{ℕ, ◌*◌, ◌≤◌, ◌<◌}
+use Prim.Native.Nat.{◌*◌, ◌≤◌, ◌<◌}
 use native.Mathlib.Omega.{arith}
 use Rattle.ground_setup.specs.declared.Size.{Size}
 use Rattle.ground_setup.specs.declared.Size.TheVariants.{K4, K8}

@@ -1,17 +1,14 @@
 -- The working store: a bit for each place, then entries of three bytes. A bit or an entry outside it reads as 0, and none is stored there.
-use Rattle.std.specs.Prelude.{cond, List, ◌++◌, ℕ, zero, suc, ◌+◌, ◌*◌, ◌/◌, ◌%◌, ◌^◌, min, eqb, leb, length, get_or, set, drop, replicate}
+use Rattle.std.specs.Prelude.{cond, List, ◌++◌, ℕ, zero, suc, ◌+◌, ◌*◌, ◌/◌, ◌%◌, ◌^◌, bit_or, min, leb, length, get_or, set, drop, replicate}
+use Rattle.std.specs.Int.{bit_at}
 
--- bit i of a byte
-unfoldable pub bit : ℕ → ℕ → ℕ
-bit i b = b / 2 ^ i % 2
-
--- whether place p is marked, 1 or 0
+-- whether place p is marked, 1 or 0: bit p % 8 of byte p / 8
 unfoldable pub bit_of : List ℕ → ℕ → ℕ
-bit_of s p = bit (p % 8) (get_or s (p / 8) 0)
+bit_of s p = bit_at (get_or s (p / 8) 0) (p % 8)
 
 -- the store with place p marked
 unfoldable pub marked : List ℕ → ℕ → List ℕ
-marked s p = cond (eqb (bit_of s p) 0) (set s (p / 8) (get_or s (p / 8) 0 + 2 ^ (p % 8))) s
+marked s p = set s (p / 8) (bit_or (get_or s (p / 8) 0) (2 ^ (p % 8)))
 
 -- how many of the places below n are marked
 unfoldable pub tally : List ℕ → ℕ → ℕ

@@ -4,9 +4,9 @@
 // `specs/Layout.antt` has the layout's numbers, `specs/Store.antt` bits and entries, `proofs/Bits.antt` their laws.
 #![tactic(auto)]
 
-ghost use Rattle.std.specs.Prelude.{◌≡◌, ◌+◌, ◌%◌, ◌<◌, min};
+ghost use Rattle.std.specs.Prelude.{◌≡◌, ◌↔◌, IsTrue, ◌+◌, ◌<◌};
 ghost use Rattle.validator_store.specs.Layout.{room_of, base_of, cap_of};
-ghost use Rattle.validator_store.specs.Store.{bit, bit_of, marked, entry_at, saved, cleared};
+ghost use Rattle.validator_store.specs.Store.{bit_of, marked, entry_at, saved, cleared};
 
 use ground_setup as setup;
 use ground_setup::Size;
@@ -19,8 +19,7 @@ pub const LEAST: usize = 32768;
 pub fn room_of(size: Size) -> usize
     ensures { (result ≡ room_of size) × (result < 0x100000) }
 {
-    let room = 3 * setup::size_of(size);
-    if room < LEAST { LEAST } else { room }
+    (3 * setup::size_of(size)).max(LEAST)
 }
 
 // Where the entries begin.
@@ -37,44 +36,24 @@ pub fn last_of(size: Size) -> usize
     places::half_of(size) / 2
 }
 
-// The bit of place p in its byte.
-#[tactic(auto, unfolding(crate::specs::Store::bit))]
-fn bit_of(b: u8, p: usize) -> u8
-    ensures { (result ≡ bit (p % 8) b) × (result < 2) }
+// Whether place p is marked.
+#[tactic(auto, unfolding(crate::specs::Store::bit_of))]
+pub fn seen(store: &[u8], p: usize) -> bool
+    ensures { IsTrue result ↔ bit_of store.now p ≡ 1 }
 {
-    (b >> (p % 8)) % 2
-}
-
-// Whether place p is marked, 1 or 0.
-#[tactic(auto, using(crate::proofs::Bits::outside_bit), unfolding(crate::specs::Store::bit_of))]
-pub fn seen(store: &[u8], p: usize) -> u8
-    ensures { result ≡ bit_of store.now p }
-{
-    let i = p / 8;
-    if store.len() <= i {
-        return 0;
-    }
-    bit_of(store[i], p)
+    let byte = store.get(p / 8).copied().unwrap_or(0);
+    (byte >> (p % 8)) % 2 == 1
 }
 
 // Place p is marked.
-#[tactic(auto, using(crate::proofs::Bits::missing_lt, crate::proofs::Bits::set_missing, crate::proofs::Bits::outside_marked))]
+#[tactic(auto, using(crate::proofs::Bits::set_marked, crate::proofs::Bits::outside_marked))]
 pub fn mark(store: &mut [u8], p: usize)
     ensures { store.new ≡ marked store.old p }
 {
     let i = p / 8;
     if i < store.len() {
-        let b = store[i];
-        let free = 1 - bit_of(b, p);
-        store[i] = b + (free << (p % 8));
+        store[i] |= 1 << (p % 8);
     }
-}
-
-// A byte as a number.
-fn wide(b: u8) -> usize
-    ensures { (result ≡ b) × (result < 256) }
-{
-    b as usize
 }
 
 // The entry at byte i.
@@ -82,15 +61,12 @@ fn wide(b: u8) -> usize
 pub fn load(store: &[u8], i: usize) -> usize
     ensures { result ≡ entry_at store.now i }
 {
-    if store.len() < 3 {
+    if store.len() < 3 || store.len() - 3 < i {
         return 0;
     }
-    if store.len() - 3 < i {
-        return 0;
-    }
-    let a = wide(store[i]);
-    let b = wide(store[i + 2]);
-    let c = wide(store[i + 1]);
+    let a = usize::from(store[i]);
+    let b = usize::from(store[i + 2]);
+    let c = usize::from(store[i + 1]);
     a + 256 * b + 65536 * c
 }
 
@@ -99,10 +75,7 @@ pub fn load(store: &[u8], i: usize) -> usize
 pub fn save(store: &mut [u8], i: usize, v: usize)
     ensures { store.new ≡ saved store.old i v }
 {
-    if store.len() < 3 {
-        return;
-    }
-    if store.len() - 3 < i {
+    if store.len() < 3 || store.len() - 3 < i {
         return;
     }
     store[i] = (v % 256) as u8;
@@ -110,21 +83,10 @@ pub fn save(store: &mut [u8], i: usize, v: usize)
     store[i + 2] = (v / 256 % 256) as u8;
 }
 
-// The smaller of two numbers.
-fn lesser(m: usize, n: usize) -> usize
-    ensures { result ≡ min m n }
-{
-    if m < n { m } else { n }
-}
-
 // The first n bytes, or all where there are fewer, are made zero.
 pub fn clear(store: &mut [u8], n: usize)
     ensures { store.new ≡ cleared store.old n }
 {
-    let end = lesser(n, store.len());
-    let mut i = 0;
-    while i < end {
-        store[i] = 0;
-        i += 1;
-    }
+    let end = n.min(store.len());
+    store[..end].fill(0);
 }

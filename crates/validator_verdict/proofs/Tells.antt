@@ -1,4 +1,6 @@
 -- What an answer tells that is no refusal: the image was fit to be looked at, and passed or fault is right. Assumes nothing.
+use Rattle.std.specs.Prelude.{Err, Ok, Result}
+use Rattle.ground_refusals.specs.declared.Refusal.{Refusal}
 use Prim.Native.Nat.{ℕ, ◌%◌, ◌≤◌, ◌<◌}
 use native.Mathlib.Omega.{arith}
 use mathlib.Core.Path.{◌≡◌, refl}
@@ -9,8 +11,6 @@ use lib.Dec.{eqb, ltb, leb}
 use borrow.Author.Tests.{eqb-false, ltb-false, leb-false}
 use Rattle.ground_setup.specs.Setup.{size_of, sized_of, setup}
 use Rattle.ground_setup.specs.declared.Size.{Size}
-use Rattle.ground_setup.specs.declared.Sized.{Sized}
-use Rattle.ground_setup.specs.declared.Sized.TheVariants as sized
 use Rattle.ground_setup.proofs.Laws.{sized_number}
 use Rattle.validator_store.specs.Layout.{room_of}
 use Rattle.validator_verdict.specs.Verdict.{VerdictValues, Tried, tried_by, tried_of, RightValues, Judged}
@@ -48,9 +48,9 @@ module _ (image : List ℕ) (size start : ℕ) (store left : List ℕ) (v : Verd
       let even : start % 2 ≡ 1 → ⊥ = eqb-false (start % 2) 1 f in
       record { buffer = s; sized = z; fits = ltb-false (size_of s) (length image) e; even = omega arith; inside = leb-false (size_of s) start g; right = j.0 }
 
-  tells_by : (z : Sized) → sized_of size ≡ z → Judged (tried_by z (length image) start (length store)) image start store left v → LookedAt image size start v
-  tells_by (sized.Refused r) e j = no_refusal v _ looked j.0
-  tells_by (sized.Of s) e j =
+  tells_by : (z : Result Size Refusal) → sized_of size ≡ z → Judged (tried_by z (length image) start (length store)) image start store left v → LookedAt image size start v
+  tells_by (Err r) e j = no_refusal v _ looked j.0
+  tells_by (Ok s) e j =
       tells_in s (sized_number size s e) (ltb (size_of s) (length image)) (eqb (start % 2) 1) (leb (size_of s) start) (ltb (length store) (room_of s)) refl refl refl j
 
   pub judged_tells : Judged (tried_of size (length image) start (length store)) image start store left v → LookedAt image size start v

@@ -1,17 +1,16 @@
 -- What the validator answers and leaves (01, "The validator").
-use Rattle.std.specs.Prelude.{◌≡◌, cond, List, ◌++◌, ℕ, ◌%◌, drop, replicate, eqb, ltb, leb}
+use Rattle.std.specs.Prelude.{◌≡◌, cond, List, ◌++◌, ℕ, ◌%◌, drop, replicate, eqb, ltb, leb, Err, Ok, Result}
+use Rattle.ground_refusals.specs.declared.Refusal.{Refusal}
 use Rattle.ground_refusals.specs.Refusals.{refusal_number}
 use Rattle.ground_setup.specs.Setup.{size_of, sized_of, setup}
 use Rattle.ground_setup.specs.declared.Setup.{Setup}
 use Rattle.ground_setup.specs.declared.Size.{Size}
-use Rattle.ground_setup.specs.declared.Sized.{Sized}
-use Rattle.ground_setup.specs.declared.Sized.TheVariants as sized
 use Rattle.ground_look.specs.Look.{fault_number}
-use Rattle.validator_walks.specs.declared.Answer.TheVariants as answer
+use Rattle.ground_look.specs.declared.Fault.{Fault}
+use Rattle.validator_walks.specs.declared.Verdict.{Verdict}
+use Rattle.validator_walks.specs.declared.Verdict.TheVariants as verdict
 use Rattle.validator_walks.specs.Walks.{Right}
 use Rattle.validator_store.specs.Layout.{room_of}
-use Rattle.validator_verdict.specs.declared.Verdict.{Verdict}
-use Rattle.validator_verdict.specs.declared.Verdict.TheVariants as verdict
 
 -- an answer in 01's numbers: "passed, with the number of different places any walk reaches; fault, with number, address and fewest
 -- steps before it; or refused"
@@ -20,10 +19,10 @@ pub data VerdictValues : Type 0 where
   fault : ℕ → ℕ → ℕ → VerdictValues
   refused : ℕ → VerdictValues
 
-abbrev pub verdict_values : Verdict → VerdictValues
-verdict_values (verdict.Passed c) = VerdictValues.passed c
-verdict_values (verdict.Fault f a k) = VerdictValues.fault (fault_number f) a k
-verdict_values (verdict.Refused r) = VerdictValues.refused (refusal_number r)
+abbrev pub verdict_values : Result Verdict Refusal → VerdictValues
+verdict_values (Ok (verdict.Passed c)) = VerdictValues.passed c
+verdict_values (Ok (verdict.Fault f a k)) = VerdictValues.fault (fault_number f) a k
+verdict_values (Err r) = VerdictValues.refused (refusal_number r)
 
 -- whether an image is refused, and by which number, or the size of its buffer
 pub data Tried : Type 0 where
@@ -42,17 +41,17 @@ tried_in size len start room =
     (cond (leb (size_of size) start) (Tried.no 4) (tried_store size room)))
 
 -- and 1 before those: the number has to be a size
-abbrev pub tried_by : Sized → ℕ → ℕ → ℕ → Tried
-tried_by (sized.Of size) len start room = tried_in size len start room
-tried_by (sized.Refused refusal) len start room = Tried.no (refusal_number refusal)
+abbrev pub tried_by : Result Size Refusal → ℕ → ℕ → ℕ → Tried
+tried_by (Ok size) len start room = tried_in size len start room
+tried_by (Err refusal) len start room = Tried.no (refusal_number refusal)
 
 abbrev pub tried_of : ℕ → ℕ → ℕ → ℕ → Tried
 tried_of size len start room = tried_by (sized_of size) len start room
 
 -- passed or fault as the walks have it
 abbrev pub RightValues : List ℕ → Setup → ℕ → VerdictValues → Type 0
-RightValues image su start (VerdictValues.passed c) = Right image su start (answer.Passed c)
-RightValues image su start (VerdictValues.fault n a k) = Right image su start (answer.Fault n a k)
+RightValues image su start (VerdictValues.passed c) = Right image su start (verdict.Passed c)
+RightValues image su start (VerdictValues.fault n a k) = (f : Fault) × (fault_number f ≡ n) × Right image su start (verdict.Fault f a k)
 RightValues image su start (VerdictValues.refused n) = ⊥
 
 -- what is answered for an image, and left of a store s: "A refusal returns its number only and alters nothing"; "after passed or fault

@@ -3,14 +3,16 @@ use mathlib.Core.Path.{◌≡◌, refl, sym, ap, ◌∙◌, subst}
 use mathlib.Core.Logic.{◌⊎◌, inl, inr, ⊎_elim}
 use Prim.Native.Nat.{ℕ, zero, suc, ◌≤◌, ◌<◌}
 use native.Mathlib.Omega.{arith}
-use Rattle.validator_walks.specs.declared.Answer.{Answer}
-use Rattle.validator_walks.specs.declared.Answer.TheVariants.{Passed, Fault}
+use Rattle.ground_look.specs.Look.{fault_number}
+use Rattle.ground_look.specs.declared.Fault.{Fault}
+use Rattle.validator_walks.specs.declared.Verdict.{Verdict}
+use Rattle.validator_walks.specs.declared.Verdict.TheVariants as verdict
 use Rattle.validator_walks.specs.Steps.{Step, Leads}
 use Rattle.validator_walks.specs.Walks.{Reach, Counted, Clean, First, RightOf}
 
 -- a step with every place named anew
 abbrev pub mapped : {X Y : Type 0} → (X → Y) → Step X → Step Y
-mapped f (Step.faulty n) = Step.faulty n
+mapped f (Step.faulty g) = Step.faulty g
 mapped f Step.stops = Step.stops
 mapped f (Step.to a) = Step.to (f a)
 mapped f (Step.either a b) = Step.either (f a) (f b)
@@ -28,7 +30,7 @@ module _ {X Y : Type 0} (f : X → Y) where
   leads_back (Step.to a) y l = (a, refl, sym l)
   leads_back (Step.either a b) y l = ⊎_elim (λ e. (a, inl refl, sym e)) (λ e. (b, inr refl, sym e)) l
 
-  pub faulty_back : (s : Step X) (n : ℕ) → mapped f s ≡ Step.faulty n → s ≡ Step.faulty n
+  pub faulty_back : (s : Step X) (n : Fault) → mapped f s ≡ Step.faulty n → s ≡ Step.faulty n
   faulty_back (Step.faulty m) n e = let h : m ≡ n = cc in ap Step.faulty h
   faulty_back Step.stops n e = let z : ◌≡◌ {A = ℕ} 0 1 = cc in absurd (omega arith)
   faulty_back (Step.to a) n e = let z : ◌≡◌ {A = ℕ} 0 1 = cc in absurd (omega arith)
@@ -40,35 +42,35 @@ counted_map to back (Counted.take {n} p x) = Counted.take (to n (omega arith) p)
 counted_map to back (Counted.skip {n} p x) = Counted.skip (λ q. p (back n (omega arith) q)) (counted_map (λ i h. to i (omega arith)) (λ i h. back i (omega arith)) x)
 
 -- the numbers below `places` stand for places, each for another one, and a number steps as its place does
-module _ {X : Type 0} (f : ℕ → X) (places : ℕ) (step_n : ℕ → Step ℕ) (stepX : X → Step X) (start : ℕ)
+module _ {X : Type 0} (f : ℕ → X) (places : ℕ) (step_n : ℕ → Step ℕ) (step_x : X → Step X) (start : ℕ)
     (start_lt : start < places)
     (led_lt : (p q : ℕ) → p < places → Leads (step_n p) q → q < places)
-    (same : (p : ℕ) → p < places → stepX (f p) ≡ mapped f (step_n p))
+    (same : (p : ℕ) → p < places → step_x (f p) ≡ mapped f (step_n p))
     (apart : (p q : ℕ) → p < places → q < places → f p ≡ f q → p ≡ q) where
   reach_lt : (k p : ℕ) → Reach step_n start k p → p < places
   reach_lt zero p e = subst (λ (x : ℕ). x < places) (sym e) start_lt
   reach_lt (suc k) p r = led_lt r.0 p (reach_lt k r.0 r.1) r.2
 
-  along : (k p : ℕ) → Reach step_n start k p → Reach stepX (f start) k (f p)
+  along : (k p : ℕ) → Reach step_n start k p → Reach step_x (f start) k (f p)
   along zero p e = ap f e
   along (suc k) p r =
       (f r.0, along k r.0 r.1, subst (λ (s : Step X). Leads s (f p)) (sym (same r.0 (reach_lt k r.0 r.1))) (leads_map f (step_n r.0) p r.2))
 
-  back : (k : ℕ) (x : X) → Reach stepX (f start) k x → (p : ℕ) × Reach step_n start k p × (f p ≡ x)
+  back : (k : ℕ) (x : X) → Reach step_x (f start) k x → (p : ℕ) × Reach step_n start k p × (f p ≡ x)
   back zero x e = (start, refl, sym e)
   back (suc k) x r =
       let b = back k r.0 r.1 in
-      let s : stepX r.0 ≡ mapped f (step_n b.0) = ap stepX (sym b.2) ∙ same b.0 (reach_lt k b.0 b.1) in
+      let s : step_x r.0 ≡ mapped f (step_n b.0) = ap step_x (sym b.2) ∙ same b.0 (reach_lt k b.0 b.1) in
       let l = leads_back f (step_n b.0) x (subst (λ (y : Step X). Leads y x) s r.2) in
       (l.0, (b.0, b.1, l.1), l.2)
 
   -- a fault of a place that is reached is its number's
-  fault_back : (k : ℕ) (x : X) (n : ℕ) (r : Reach stepX (f start) k x) → stepX x ≡ Step.faulty n → step_n (back k x r).0 ≡ Step.faulty n
+  fault_back : (k : ℕ) (x : X) (n : Fault) (r : Reach step_x (f start) k x) → step_x x ≡ Step.faulty n → step_n (back k x r).0 ≡ Step.faulty n
   fault_back k x n r e =
       let b = back k x r in
-      faulty_back f (step_n b.0) n (sym (same b.0 (reach_lt k b.0 b.1)) ∙ ap stepX b.2 ∙ e)
+      faulty_back f (step_n b.0) n (sym (same b.0 (reach_lt k b.0 b.1)) ∙ ap step_x b.2 ∙ e)
 
-  pub clean_along : (c : ℕ) → Clean step_n start (λ i. i) places c → Clean stepX (f start) f places c
+  pub clean_along : (c : ℕ) → Clean step_n start (λ i. i) places c → Clean step_x (f start) f places c
   clean_along c C = record {
     sound = λ k x n r e. C.sound k (back k x r).0 n (back k x r).1 (fault_back k x n r e);
     count = counted_map
@@ -79,8 +81,8 @@ module _ {X : Type 0} (f : ℕ → X) (places : ℕ) (step_n : ℕ → Step ℕ)
         C.count;
   }
 
-  module _ (addressN : ℕ → ℕ) (addressX : X → ℕ) (address : (p : ℕ) → addressX (f p) ≡ addressN p) where
-    pub first_along : (n a k : ℕ) → First step_n start addressN n a k → First stepX (f start) addressX n a k
+  module _ (address_n : ℕ → ℕ) (address_x : X → ℕ) (address : (p : ℕ) → address_x (f p) ≡ address_n p) where
+    pub first_along : (n : Fault) (a k : ℕ) → First step_n start address_n n a k → First step_x (f start) address_x n a k
     first_along n a k F = record {
       met = f F.met;
       here = along k F.met F.here;
@@ -88,10 +90,10 @@ module _ {X : Type 0} (f : ℕ → X) (places : ℕ) (step_n : ℕ → Step ℕ)
       at = address F.met ∙ F.at;
       earlier = λ j x m l r e. F.earlier j (back j x r).0 m l (back j x r).1 (fault_back j x m r e);
       lowest = λ x m r e.
-          subst (λ (y : ℕ). (a < y) ⊎ ((a ≡ y) × (n ≤ m))) (sym (address (back k x r).0) ∙ ap addressX (back k x r).2)
+          subst (λ (y : ℕ). (a < y) ⊎ ((a ≡ y) × (fault_number n ≤ fault_number m))) (sym (address (back k x r).0) ∙ ap address_x (back k x r).2)
           (F.lowest (back k x r).0 m (back k x r).1 (fault_back k x m r e));
     }
 
-    pub right_along : (v : Answer) → RightOf step_n start (λ i. i) places addressN v → RightOf stepX (f start) f places addressX v
-    right_along (Passed c) C = clean_along c C
-    right_along (Fault n a k) F = first_along n a k F
+    pub right_along : (v : Verdict) → RightOf step_n start (λ i. i) places address_n v → RightOf step_x (f start) f places address_x v
+    right_along (verdict.Passed c) C = clean_along c C
+    right_along (verdict.Fault n a k) F = first_along n a k F

@@ -9,13 +9,11 @@ use Rattle.ground_setup.specs.declared.Setup.{Setup}
 use Rattle.ground_orders.specs.declared.Mode.{Mode}
 use Rattle.ground_orders.specs.declared.Mode.TheVariants.{Idle}
 use Rattle.ground_groups.specs.Groups.{image_group}
-use Rattle.ground_look.specs.Look.{look_of, fault_number}
-use Rattle.ground_look.specs.declared.Fault.{Fault}
-use Rattle.ground_look.specs.declared.Fault.TheVariants as fault
+use Rattle.ground_look.specs.Look.{look_of}
 use Rattle.ground_look.specs.declared.Look.{Look}
 use Rattle.ground_look.specs.declared.Look.TheVariants as look
 use Rattle.validator_walks.specs.declared.Place.{Place}
-use Rattle.validator_walks.specs.declared.Answer.{Answer}
+use Rattle.validator_walks.specs.declared.Verdict.{Verdict}
 use Rattle.validator_walks.specs.Places.{place, Proper, half_of, places_of, number_of, address_of, place_of}
 use Rattle.validator_walks.specs.Steps.{Step, Leads, step_by, step_of, way_by, way_of, as_step}
 use Rattle.validator_walks.specs.Walks.{Reach, RightOf, Right}
@@ -23,15 +21,15 @@ use Rattle.validator_walks.proofs.Numbering.{place_proper, number_lt, number_of_
 use Rattle.validator_walks.proofs.Along.{mapped, leads_back, right_along}
 use Rattle.validator_walks.proofs.Looks.{look_sound}
 
--- a fault's number is a fault's, and both ways of a step are idle
+-- both ways of a step are idle
 abbrev Known : Step Place → Type 0
-Known (Step.faulty n) = (f : Fault) × (fault_number f ≡ n)
+Known (Step.faulty f) = Unit {0}
 Known Step.stops = Unit {0}
 Known (Step.to a) = Unit {0}
 Known (Step.either a b) = (a.mode ≡ Idle) × (b.mode ≡ Idle)
 
 known_by : (m : Mode) (l : Look) → Known (step_by m l)
-known_by m (look.Fault f) = (f, refl)
+known_by m (look.Fault f) = tt
 known_by m (look.Check a) = tt
 known_by m (look.Enter n a) = tt
 known_by m (look.Pass a) = tt
@@ -68,16 +66,12 @@ module _ (image : List ℕ) (su : Setup) where
   unfolding step_of
   known p = known_by p.mode (look_of (image_group image su) su p.at p.mode)
 
-  -- a fault is one of the five
-  pub fault_named : (p : Place) (n : ℕ) → step_of image su p ≡ Step.faulty n → (f : Fault) × (fault_number f ≡ n)
-  fault_named p n e = subst Known e (known p)
-
   -- a step from a place of the buffer goes on to places of the buffer
   pub step_proper : (p : Place) → Proper su.size p → (q : Place) → Leads (step_of image su p) q → Proper su.size q
   unfolding step_of
   step_proper p P = look_sound su (image_group image su) p.at p.mode P.even
 
-  -- every place that a walk reaches is one of the buffer, so that the numbers below `placesOf` count it, and once
+  -- every place that a walk reaches is one of the buffer, so that the numbers below `places_of` count it, and once
   pub reached_proper : (start : Place) → Proper su.size start → (k : ℕ) (p : Place) → Reach (step_of image su) start k p → Proper su.size p
   reached_proper start P zero p r = subst (Proper su.size) (sym r) P
   reached_proper start P (suc k) p r = step_proper r.0 (reached_proper start P k r.0 r.1) p r.2
@@ -98,19 +92,6 @@ module _ (image : List ℕ) (su : Setup) where
       let b = leads_back (number_of su.size) (step_of image su (place_of su.size n)) q (subst (λ (x : Step ℕ). Leads x q) (way_is n) l) in
       subst (λ (x : ℕ). x < places_of su.size) b.2 (number_lt su.size b.0 (from_number n b.0 b.1))
 
-  -- a fault's number is small
-  pub fault_lt : (n m : ℕ) → as_step (way_of image su n) ≡ Step.faulty m → m < 16
-  fault_lt n m e =
-      let f = fault_named (place_of su.size n) m (way_same n ∙ ap (mapped (place_of su.size)) e) in
-      subst (λ (x : ℕ). x < 16) f.1 (small f.0)
-    where
-      small : (f : Fault) → fault_number f < 16
-      small fault.Unwritten = omega arith
-      small fault.NoRow = omega arith
-      small fault.OddTarget = omega arith
-      small fault.FarTarget = omega arith
-      small fault.OrderForY = omega arith
-
   -- both ways of a step are among the first numbers
   two_by : (s : Step Place) → Known s → ((q : Place) → Leads s q → Proper su.size q) → (a b : ℕ) → mapped (number_of su.size) s ≡ Step.either a b
       → (a < half_of su.size) × (b < half_of su.size)
@@ -129,7 +110,7 @@ module _ (image : List ℕ) (su : Setup) where
   two_lt n a b e = two_by (step_of image su (place_of su.size n)) (known (place_of su.size n)) (from_number n) a b (sym (way_is n) ∙ e)
 
   -- what is right of the numbers is right of the places
-  pub right_of_numbers : (start : ℕ) → Proper su.size (place start Idle) → (v : Answer)
+  pub right_of_numbers : (start : ℕ) → Proper su.size (place start Idle) → (v : Verdict)
       → RightOf (λ n. as_step (way_of image su n)) (number_of su.size (place start Idle)) (λ i. i) (places_of su.size) (address_of su.size) v
       → Right image su start v
   right_of_numbers start P v R =

@@ -1,4 +1,5 @@
 -- What every look gives: the places it goes on to are places of the buffer, and an image has no bad parity. Assumes nothing.
+use Rattle.std.specs.Prelude.{None, Option, Some}
 use mathlib.Core.Path.{◌≡◌, refl, sym, subst}
 use mathlib.Core.Logic.{⊎_elim}
 use mathlib.Core.Bool.{Bool, true, false, cond, false≢true, ◌&&◌}
@@ -18,8 +19,6 @@ use Rattle.ground_orders.specs.declared.Mode.TheVariants.{Idle}
 use Rattle.ground_orders.specs.declared.Follows.{Follows}
 use Rattle.ground_orders.specs.declared.Follows.TheVariants as follows
 use Rattle.ground_orders.specs.declared.Row.{Row}
-use Rattle.ground_orders.specs.declared.Found.{Found}
-use Rattle.ground_orders.specs.declared.Found.TheVariants.{Order, Missing}
 use Rattle.ground_groups.specs.Groups.{group_by, image_group}
 use Rattle.ground_groups.specs.declared.Group.{Group}
 use Rattle.ground_groups.specs.declared.Group.TheVariants as group
@@ -38,9 +37,9 @@ cond_each P true x y u v = u refl
 cond_each P false x y u v = v refl
 
 -- every order is an even number of bytes long
-abbrev Evenly : Found → Type 0
-Evenly Missing = Unit {0}
-Evenly (Order r) = r.length % 2 ≡ 0
+abbrev Evenly : Option Row → Type 0
+Evenly None = Unit {0}
+Evenly (Some r) = r.length % 2 ≡ 0
 
 all_even : List Row → Bool
 all_even [] = true
@@ -94,9 +93,9 @@ module _ (su : Setup) where
     order_going n h follows.Transfer = ahead_proper a n Idle even h
     order_going n h follows.NoDetect = ahead_proper a n Idle even h
 
-    found_going : (f : Found) → Evenly f → Going m (found_by su a f)
-    found_going Missing e = λ q l. absurd l
-    found_going (Order r) e = order_going r.length e r.follows
+    found_going : (f : Option Row) → Evenly f → Going m (found_by su a f)
+    found_going None e = λ q l. absurd l
+    found_going (Some r) e = order_going r.length e r.follows
 
     data_going : (b c : ℕ) → Going m (data_by su.size a b c m)
     data_going b c =
@@ -184,9 +183,9 @@ module _ (su : Setup) (a : ℕ) (m : Mode) where
   order_begins n follows.Transfer = tt
   order_begins n follows.NoDetect = tt
 
-  found_begins : (f : Found) → Begins (found_by su a f)
-  found_begins Missing = tt
-  found_begins (Order r) = order_begins r.length r.follows
+  found_begins : (f : Option Row) → Begins (found_by su a f)
+  found_begins None = tt
+  found_begins (Some r) = order_begins r.length r.follows
 
   data_begins : (b c : ℕ) → Begins (data_by su.size a b c m)
   data_begins b c = either_way Begins (placing m) tt tt

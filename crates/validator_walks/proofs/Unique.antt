@@ -1,16 +1,43 @@
 -- Any two right answers are equal. Assumes nothing.
-use mathlib.Core.Path.{◌≡◌, refl, sym, ap, subst}
+use mathlib.Core.Path.{◌≡◌, refl, sym, ap, ◌∙◌, subst}
+use mathlib.Core.Bool.{cond}
+use lib.Dec.{eqb}
 use mathlib.Core.Logic.{⊎_elim}
 use mathlib.Core.List.{List}
 use Prim.Native.Nat.{ℕ, suc, ◌<◌}
 use native.Mathlib.Omega.{arith}
 use Rattle.ground_setup.specs.declared.Setup.{Setup}
 use Rattle.ground_orders.specs.declared.Mode.TheVariants.{Idle}
-use Rattle.validator_walks.specs.declared.Answer.{Answer}
-use Rattle.validator_walks.specs.declared.Answer.TheVariants.{Passed, Fault}
+use Rattle.ground_look.specs.Look.{fault_number}
+use Rattle.ground_look.specs.declared.Fault.{Fault}
+use Rattle.ground_look.specs.declared.Fault.TheVariants.{Unwritten, NoRow, OddTarget, FarTarget, OrderForY}
+use Rattle.validator_walks.specs.declared.Verdict.{Verdict}
+use Rattle.validator_walks.specs.declared.Verdict.TheVariants as verdict
 use Rattle.validator_walks.specs.Places.{place, place_of, places_of}
 use Rattle.validator_walks.specs.Steps.{Step, step_of}
 use Rattle.validator_walks.specs.Walks.{Counted, First, RightOf, Right}
+
+-- a fault is known by its number
+fault_of : ℕ → Fault
+fault_of n = cond (eqb n 2) NoRow (cond (eqb n 3) OddTarget (cond (eqb n 4) FarTarget (cond (eqb n 5) OrderForY Unwritten)))
+
+fault_of_number : (f : Fault) → fault_of (fault_number f) ≡ f
+unfolding fault_of
+fault_of_number Unwritten = refl
+fault_of_number NoRow = refl
+fault_of_number OddTarget = refl
+fault_of_number FarTarget = refl
+fault_of_number OrderForY = refl
+
+pub same_fault : (f g : Fault) → fault_number f ≡ fault_number g → f ≡ g
+same_fault f g e = sym (fault_of_number f) ∙ ap fault_of e ∙ fault_of_number g
+
+pub fault_lt : (f : Fault) → (0 < fault_number f) × (fault_number f < 6)
+fault_lt Unwritten = (omega arith, omega arith)
+fault_lt NoRow = (omega arith, omega arith)
+fault_lt OddTarget = (omega arith, omega arith)
+fault_lt FarTarget = (omega arith, omega arith)
+fault_lt OrderForY = (omega arith, omega arith)
 
 pub counted_unique : {Q : ℕ → Type 0} {n c d : ℕ} → Counted Q n c → Counted Q n d → c ≡ d
 counted_unique Counted.none Counted.none = refl
@@ -20,16 +47,16 @@ counted_unique (Counted.skip a x) (Counted.take b y) = absurd (a b)
 counted_unique (Counted.skip a x) (Counted.skip b y) = counted_unique x y
 
 module _ {X : Type 0} (step : X → Step X) (start : X) (address : X → ℕ) where
-  not_later : (n a k m b j : ℕ) → First step start address n a k → First step start address m b j → k < j → ⊥
+  not_later : (n : Fault) (a k : ℕ) (m : Fault) (b j : ℕ) → First step start address n a k → First step start address m b j → k < j → ⊥
   not_later n a k m b j x y l = y.earlier k x.met n l x.here x.faulty
 
-  same_steps : (n a k m b j : ℕ) → First step start address n a k → First step start address m b j → k ≡ j
+  same_steps : (n : Fault) (a k : ℕ) (m : Fault) (b j : ℕ) → First step start address n a k → First step start address m b j → k ≡ j
   same_steps n a k m b j x y =
       let u : ¬ (k < j) = not_later n a k m b j x y in
       let v : ¬ (j < k) = not_later m b j n a k y x in
       omega arith
 
-  same_rest : (n a k m b : ℕ) → First step start address n a k → First step start address m b k → (n ≡ m) × (a ≡ b)
+  same_rest : (n : Fault) (a k : ℕ) (m : Fault) (b : ℕ) → First step start address n a k → First step start address m b k → (fault_number n ≡ fault_number m) × (a ≡ b)
   same_rest n a k m b x y =
       ⊎_elim
       (λ u. ⊎_elim (λ v. omega (arith, x.at, y.at)) (λ v. omega (arith, x.at, y.at)) (y.lowest x.met n x.here x.faulty))
@@ -37,17 +64,17 @@ module _ {X : Type 0} (step : X → Step X) (start : X) (address : X → ℕ) wh
       (x.lowest y.met m y.here y.faulty)
 
   module _ (numbered : ℕ → X) (places : ℕ) where
-    pub unique_of : (v w : Answer) → RightOf step start numbered places address v → RightOf step start numbered places address w → v ≡ w
-    unique_of (Passed c) (Passed d) x y = ap Passed (counted_unique x.count y.count)
-    unique_of (Passed c) (Fault m b j) x y = absurd (x.sound j y.met m y.here y.faulty)
-    unique_of (Fault n a k) (Passed d) x y = absurd (y.sound k x.met n x.here x.faulty)
-    unique_of (Fault n a k) (Fault m b j) x y =
+    pub unique_of : (v w : Verdict) → RightOf step start numbered places address v → RightOf step start numbered places address w → v ≡ w
+    unique_of (verdict.Passed c) (verdict.Passed d) x y = ap verdict.Passed (counted_unique x.count y.count)
+    unique_of (verdict.Passed c) (verdict.Fault m b j) x y = absurd (x.sound j y.met m y.here y.faulty)
+    unique_of (verdict.Fault n a k) (verdict.Passed d) x y = absurd (y.sound k x.met n x.here x.faulty)
+    unique_of (verdict.Fault n a k) (verdict.Fault m b j) x y =
         let s : k ≡ j = same_steps n a k m b j x y in
         let r = same_rest n a k m b x (subst (First step start address m b) (sym s) y) in
-        let p : n ≡ m = r.0 in
+        let p : n ≡ m = same_fault n m r.0 in
         let q : a ≡ b = r.1 in
         cc
 
 -- two right answers on an image are equal
-pub unique : (image : List ℕ) (su : Setup) (start : ℕ) (v w : Answer) → Right image su start v → Right image su start w → v ≡ w
+pub unique : (image : List ℕ) (su : Setup) (start : ℕ) (v w : Verdict) → Right image su start v → Right image su start w → v ≡ w
 unique image su start = unique_of (step_of image su) (place start Idle) (λ p. p.at) (place_of su.size) (places_of su.size)

@@ -13,9 +13,11 @@ use Rattle.ground_setup.specs.declared.Setup.{Setup}
 use Rattle.ground_orders.specs.Orders.{order_of, find_in, table}
 use Rattle.ground_orders.specs.declared.Mode.TheVariants.{Idle, Vector}
 use Rattle.ground_groups.specs.Groups.{image_group}
-use Rattle.ground_look.specs.Look.{look_of}
+use Rattle.ground_look.specs.Look.{look_of, fault_number}
+use Rattle.ground_look.specs.declared.Fault.{Fault}
+use Rattle.ground_look.specs.declared.Fault.TheVariants.{Unwritten, OddTarget, FarTarget, OrderForY}
 use Rattle.validator_walks.specs.declared.Place.{Place}
-use Rattle.validator_walks.specs.declared.Answer.TheVariants.{Passed, Fault}
+use Rattle.validator_walks.specs.declared.Verdict.TheVariants as verdict
 use Rattle.validator_walks.specs.Places.{place, places_of, number_of, place_of}
 use Rattle.validator_walks.specs.Steps.{Step, Leads, step_of}
 use Rattle.validator_walks.specs.Walks.{Counted, Reach, Reached, First, Right}
@@ -23,13 +25,13 @@ use Rattle.validator_walks.specs.Starred.{starred_cases, AllRight}
 use Rattle.validator_walks.proofs.Numbering.{number_of_place}
 
 -- no fault is met where a step goes on or stops
-to_calm : {X : Type 0} (q : X) (n : ℕ) → Step.to q ≡ Step.faulty n → ⊥
+to_calm : {X : Type 0} (q : X) (n : Fault) → Step.to q ≡ Step.faulty n → ⊥
 to_calm q n c = let z : ◌≡◌ {A = ℕ} 0 1 = cc in omega arith
 
-stops_calm : {X : Type 0} (n : ℕ) → ◌≡◌ {A = Step X} Step.stops (Step.faulty n) → ⊥
+stops_calm : {X : Type 0} (n : Fault) → ◌≡◌ {A = Step X} Step.stops (Step.faulty n) → ⊥
 stops_calm n c = let z : ◌≡◌ {A = ℕ} 0 1 = cc in omega arith
 
-either_calm : {X : Type 0} (p q : X) (n : ℕ) → Step.either p q ≡ Step.faulty n → ⊥
+either_calm : {X : Type 0} (p q : X) (n : Fault) → Step.either p q ≡ Step.faulty n → ⊥
 either_calm p q n c = let z : ◌≡◌ {A = ℕ} 0 1 = cc in omega arith
 
 -- a walk that has one way alone: after k steps it is at p, and no fault was met
@@ -37,7 +39,7 @@ module _ {X : Type 0} (step : X → Step X) (start : X) where
   record Alone (k : ℕ) (p : X) : Type 0 where
     here : Reach step start k p
     only : (q : X) → Reach step start k q → q ≡ p
-    before : (j : ℕ) (q : X) (n : ℕ) → j < k → Reach step start j q → step q ≡ Step.faulty n → ⊥
+    before : (j : ℕ) (q : X) (n : Fault) → j < k → Reach step start j q → step q ≡ Step.faulty n → ⊥
 
   begin : Alone 0 start
   begin = record { here = refl; only = λ q r. r; before = λ j q n h. absurd (not-suc-le-zero h) }
@@ -52,7 +54,7 @@ module _ {X : Type 0} (step : X → Step X) (start : X) where
         (eq-or-lt_of_le (le_of_suc-le-suc h));
   }
 
-  ends_first : (address : X → ℕ) (k : ℕ) (p : X) (n : ℕ) → step p ≡ Step.faulty n → Alone k p → First step start address n (address p) k
+  ends_first : (address : X → ℕ) (k : ℕ) (p : X) (n : Fault) → step p ≡ Step.faulty n → Alone k p → First step start address n (address p) k
   ends_first address k p n e A = record {
     met = p;
     here = A.here;
@@ -62,8 +64,8 @@ module _ {X : Type 0} (step : X → Step X) (start : X) where
     lowest = λ q m r f. inr (ap address (sym (A.only q r)), same_fault m (sym e ∙ ap step (sym (A.only q r)) ∙ f));
   }
     where
-      same_fault : (m : ℕ) → ◌≡◌ {A = Step X} (Step.faulty n) (Step.faulty m) → n ≤ m
-      same_fault m c = let s : n ≡ m = cc in omega arith
+      same_fault : (m : Fault) → ◌≡◌ {A = Step X} (Step.faulty n) (Step.faulty m) → fault_number n ≤ fault_number m
+      same_fault m c = let s : n ≡ m = cc in omega (arith, ap fault_number s)
 
   -- what holds of the start and is kept by every step holds wherever a walk is
   stays_in : (In : X → Type 0) → In start → ((p : X) → In p → (q : X) → Leads (step p) q → In q) → (k : ℕ) (p : X) → Reach step start k p → In p
@@ -94,7 +96,7 @@ module _ (image : List ℕ) where
   from4 = step_of image in4
 
   -- no walk leaves one place, or two of which the first is met first
-  passed_one : from4 (idle 0) ≡ Step.to (idle 0) → Right image in4 0 (Passed 1)
+  passed_one : from4 (idle 0) ≡ Step.to (idle 0) → Right image in4 0 (verdict.Passed 1)
   passed_one e =
       let inside : (k : ℕ) (p : Place) → Reach from4 (idle 0) k p → p ≡ idle 0 =
       stays_in from4 (idle 0) (λ p. p ≡ idle 0) refl (λ p s q l. subst (λ (x : Step Place). Leads x q) (ap from4 s ∙ e) l) in
@@ -105,7 +107,7 @@ module _ (image : List ℕ) where
       }
 
   -- the first of two places leads to no other than the two, and the second stops
-  module _ (b : ℕ) (calm : (n : ℕ) → from4 (idle 0) ≡ Step.faulty n → ⊥)
+  module _ (b : ℕ) (calm : (n : Fault) → from4 (idle 0) ≡ Step.faulty n → ⊥)
       (led : (q : Place) → Leads (from4 (idle 0)) q → (q ≡ idle 0) ⊎ (q ≡ idle b)) (stop : from4 (idle b) ≡ Step.stops) where
     two_kept : (p : Place) → (p ≡ idle 0) ⊎ (p ≡ idle b) → (q : Place) → Leads (from4 p) q → (q ≡ idle 0) ⊎ (q ≡ idle b)
     two_kept p i q l =
@@ -125,7 +127,7 @@ module _ (image : List ℕ) where
         (two_inside r.0 (place_of K4 i) r.1)
 
     passed_two : number_of K4 (idle b) < places_of K4 → Counted (λ i. Reached from4 (idle 0) (place_of K4 i)) (suc (number_of K4 (idle b))) 2
-        → Right image in4 0 (Passed 2)
+        → Right image in4 0 (verdict.Passed 2)
     passed_two h C = record {
       sound = λ k p n r f. ⊎_elim
           (λ e. calm n (ap from4 (sym e) ∙ f))
@@ -139,15 +141,15 @@ module _ (size : Size) (image : List ℕ) where
   su = setup size
 
   -- a fault at the start, and one after a step
-  at_once : (n : ℕ) → step_of image su (idle 0) ≡ Step.faulty n → Right image su 0 (Fault n 0 0)
+  at_once : (n : Fault) → step_of image su (idle 0) ≡ Step.faulty n → Right image su 0 (verdict.Fault n 0 0)
   at_once n e = ends_first (step_of image su) (idle 0) (λ p. p.at) 0 (idle 0) n e (begin (step_of image su) (idle 0))
 
-  after_one : (p : Place) (n : ℕ) → step_of image su (idle 0) ≡ Step.to p → step_of image su p ≡ Step.faulty n → Right image su 0 (Fault n p.at 1)
+  after_one : (p : Place) (n : Fault) → step_of image su (idle 0) ≡ Step.to p → step_of image su p ≡ Step.faulty n → Right image su 0 (verdict.Fault n p.at 1)
   after_one p n a e =
       ends_first (step_of image su) (idle 0) (λ p. p.at) 1 p n e (on (step_of image su) (idle 0) 0 (idle 0) p a (begin (step_of image su) (idle 0)))
 
-  after_three : (p q r : Place) (n : ℕ) → step_of image su (idle 0) ≡ Step.to p → step_of image su p ≡ Step.to q → step_of image su q ≡ Step.to r
-      → step_of image su r ≡ Step.faulty n → Right image su 0 (Fault n r.at 3)
+  after_three : (p q r : Place) (n : Fault) → step_of image su (idle 0) ≡ Step.to p → step_of image su p ≡ Step.to q → step_of image su q ≡ Step.to r
+      → step_of image su r ≡ Step.faulty n → Right image su 0 (verdict.Fault n r.at 3)
   after_three p q r n a b c e =
       ends_first (step_of image su) (idle 0) (λ p. p.at) 3 r n e
       (on (step_of image su) (idle 0) 2 q r c
@@ -160,7 +162,7 @@ no_detect = 0x2A ∷ 0xFD ∷ 0x00 ∷ 0x00 ∷ 0x2A ∷ 0x81 ∷ []
 abbrev odd_2_a : List ℕ
 odd_2_a = 0x00 ∷ 0x2A ∷ 0x2A ∷ 0x81 ∷ []
 
-no_detect_passed : Right no_detect in4 0 (Passed 2)
+no_detect_passed : Right no_detect in4 0 (verdict.Passed 2)
 unfolding step_of look_of image_group order_of find_in table
 no_detect_passed =
     passed_two no_detect 4 (either_calm (idle 0) (idle 4)) (λ q l. l) refl (omega arith)
@@ -169,7 +171,7 @@ no_detect_passed =
     (λ r. ⊎_elim (λ e. omega arith) (λ e. omega arith) (two_numbers no_detect 4 (either_calm (idle 0) (idle 4)) (λ q l. l) refl 1 (omega arith) r))
     (Counted.take (0, refl) Counted.none)))
 
-odd_2_a_passed : Right odd_2_a in4 0 (Passed 2)
+odd_2_a_passed : Right odd_2_a in4 0 (verdict.Passed 2)
 unfolding step_of look_of image_group order_of find_in table
 odd_2_a_passed =
     passed_two odd_2_a 2 (to_calm (idle 2)) (λ q l. inr l) refl (omega arith)
@@ -179,25 +181,25 @@ odd_2_a_passed =
 pub all_right : AllRight starred_cases
 unfolding step_of look_of image_group order_of find_in table
 all_right = (
-  at_once K4 [] 1 refl,
+  at_once K4 [] Unwritten refl,
   (
-    after_three K4 (0 ∷ 0 ∷ 0 ∷ 0 ∷ 0 ∷ 0 ∷ []) (idle 2) (idle 4) (idle 6) 1 refl refl refl refl,
+    after_three K4 (0 ∷ 0 ∷ 0 ∷ 0 ∷ 0 ∷ 0 ∷ []) (idle 2) (idle 4) (idle 6) Unwritten refl refl refl refl,
     (
-      after_one K4 (0x2A ∷ 0xC0 ∷ []) (idle 4) 1 refl refl,
+      after_one K4 (0x2A ∷ 0xC0 ∷ []) (idle 4) Unwritten refl refl,
       (
         passed_one (0x2A ∷ 0xFF ∷ 0x00 ∷ 0x00 ∷ []) refl,
         (
-          at_once K4 (0x2A ∷ 0xFF ∷ 0x00 ∷ 0x03 ∷ []) 3 refl,
+          at_once K4 (0x2A ∷ 0xFF ∷ 0x00 ∷ 0x03 ∷ []) OddTarget refl,
           (
-            at_once K4 (0x2A ∷ 0xFF ∷ 0xFF ∷ 0xFF ∷ []) 3 refl,
+            at_once K4 (0x2A ∷ 0xFF ∷ 0xFF ∷ 0xFF ∷ []) OddTarget refl,
             (
-              at_once K4 (0x2A ∷ 0xFF ∷ 0x10 ∷ 0x00 ∷ []) 4 refl,
+              at_once K4 (0x2A ∷ 0xFF ∷ 0x10 ∷ 0x00 ∷ []) FarTarget refl,
               (
-                after_one K8 (0x2A ∷ 0xFF ∷ 0x10 ∷ 0x00 ∷ []) (idle 4096) 1 refl refl,
+                after_one K8 (0x2A ∷ 0xFF ∷ 0x10 ∷ 0x00 ∷ []) (idle 4096) Unwritten refl refl,
                 (
                   no_detect_passed,
                   (
-                    after_one K4 (0x2A ∷ 0x02 ∷ 0x00 ∷ 0x00 ∷ 0x2A ∷ 0x81 ∷ []) (place 2 Vector) 5 refl refl,
+                    after_one K4 (0x2A ∷ 0x02 ∷ 0x00 ∷ 0x00 ∷ 0x2A ∷ 0x81 ∷ []) (place 2 Vector) OrderForY refl refl,
                     (odd_2_a_passed, tt),
                   ),
                 ),

@@ -5,7 +5,8 @@ use Rattle.ground_setup.specs.declared.Setup.{Setup}
 use Rattle.ground_orders.specs.declared.Mode.{Mode}
 use Rattle.ground_orders.specs.declared.Mode.TheVariants.{Idle}
 use Rattle.ground_groups.specs.Groups.{image_group}
-use Rattle.ground_look.specs.Look.{look_of, fault_number}
+use Rattle.ground_look.specs.Look.{look_of}
+use Rattle.ground_look.specs.declared.Fault.{Fault}
 use Rattle.ground_look.specs.declared.Look.{Look}
 use Rattle.ground_look.specs.declared.Look.TheVariants as look
 use Rattle.validator_walks.specs.declared.Place.{Place}
@@ -13,16 +14,16 @@ use Rattle.validator_walks.specs.declared.Way.{Way}
 use Rattle.validator_walks.specs.declared.Way.TheVariants.{Faulty, Stops, To, Either}
 use Rattle.validator_walks.specs.Places.{place, number_of, place_of}
 
--- what a step may lead to, for places of any kind: a fault by its number, nothing more, one place, or either of two
+-- what a step may lead to, for places of any kind: a fault, nothing more, one place, or either of two
 pub data Step (X : Type 0) : Type 0 where
-  faulty : ℕ → Step X
+  faulty : Fault → Step X
   stops : Step X
   to : X → Step X
   either : X → X → Step X
 
 -- the places that a step may go on to
 abbrev pub Leads : {X : Type 0} → Step X → X → Type 0
-Leads (Step.faulty n) q = ⊥
+Leads (Step.faulty f) q = ⊥
 Leads Step.stops q = ⊥
 Leads (Step.to a) q = q ≡ a
 Leads (Step.either a b) q = (q ≡ a) ⊎ (q ≡ b)
@@ -31,7 +32,7 @@ Leads (Step.either a b) q = (q ≡ a) ⊎ (q ≡ b)
 -- the mode they are met in. "Here Transfer On No Detect may go either way at any time." End Order Sequence stops, and so would bad
 -- parity, which no image has.
 abbrev pub step_by : Mode → Look → Step Place
-step_by m (look.Fault f) = Step.faulty (fault_number f)
+step_by m (look.Fault f) = Step.faulty f
 step_by m (look.Check a) = Step.stops
 step_by m (look.Enter n a) = Step.to (place a n)
 step_by m (look.Pass a) = Step.to (place a Idle)
@@ -49,7 +50,7 @@ step_of image su p = step_by p.mode (look_of (image_group image su) su p.at p.mo
 
 -- the same with each place as its number
 abbrev pub way_by : Size → Step Place → Way
-way_by size (Step.faulty n) = Faulty n
+way_by size (Step.faulty f) = Faulty f
 way_by size Step.stops = Stops
 way_by size (Step.to a) = To (number_of size a)
 way_by size (Step.either a b) = Either (number_of size a) (number_of size b)
@@ -59,7 +60,7 @@ way_of image su n = way_by su.size (step_of image su (place_of su.size n))
 
 -- a way as a step
 abbrev pub as_step : Way → Step ℕ
-as_step (Faulty n) = Step.faulty n
+as_step (Faulty f) = Step.faulty f
 as_step Stops = Step.stops
 as_step (To a) = Step.to a
 as_step (Either a b) = Step.either a b

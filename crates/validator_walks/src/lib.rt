@@ -4,20 +4,22 @@
 // right answers. `specs/Starred.antt` has the worked cases.
 #![tactic(auto)]
 
+use ground_look::Fault;
 use ground_orders::Mode;
 
 // Where a walk is: an even address and a mode.
+// Not a Hit: a mode stands beside the address.
 #[derive(Clone, Copy)]
 pub struct Place {
     pub at: usize,
     pub mode: Mode,
 }
 
-// What one step leads to, each place as its number.
+// What one step leads to, each place as its number. An enum: four cases.
 #[derive(Clone, Copy)]
 pub enum Way {
-    // A fault, by its number.
-    Faulty(u8),
+    // A fault.
+    Faulty(Fault),
     // The end of the walk.
     Stops,
     // One place.
@@ -26,11 +28,11 @@ pub enum Way {
     Either(usize, usize),
 }
 
-// What is found of all walks of an image.
+// What is found of all walks of an image. An enum: a fault that is found is an answer, no failure.
 #[derive(Clone, Copy)]
-pub enum Answer {
+pub enum Verdict {
     // No fault: the number of different places reached.
     Passed(usize),
-    // The first fault: its number, its address, and the steps before it.
-    Fault(u8, usize, usize),
+    // The first fault, its address, and the fewest steps before it.
+    Fault(Fault, usize, usize),
 }

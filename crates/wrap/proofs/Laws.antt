@@ -15,20 +15,18 @@ use Rattle.text_put.specs.Text.{end_of}
 use Rattle.text_put.proofs.Laws.{Puts, put_no_text, put_whole}
 use Rattle.wrap.specs.Wrap.{read_on, complaint_line, wrapped_of, WrappedPut, ReadWithin, ReadFor, Wraps}
 use Rattle.wrap.specs.declared.Asked.{Asked}
-use Rattle.wrap.specs.declared.Asked.TheVariants as asked
 use Rattle.wrap.specs.declared.Complaint.{Complaint}
 use Rattle.wrap.specs.declared.Complaint.TheVariants as complaint
-use Rattle.wrap.specs.declared.Input.{Input}
-use Rattle.wrap.specs.declared.Input.TheVariants as input
 use Rattle.wrap.specs.declared.Lengths.{Lengths}
 use Rattle.wrap.specs.declared.Report.{Report}
-use Rattle.wrap.specs.declared.Stand.{Stand}
-use Rattle.wrap.specs.declared.Stand.TheVariants.{More, Done}
+use Rattle.std.specs.Prelude.{Result, Ok, Err}
+use Rattle.std.specs.declared.ops.ControlFlow.{ControlFlow}
+use Rattle.std.specs.declared.ops.ControlFlow.TheVariants.{Break, Continue}
 
 -- more bytes than before, and room behind them; or what an image can come to
-abbrev pub Further : ℕ → ℕ → Stand → Type 0
-Further room end (More next) = (end < next) × (next < room)
-Further room end (Done found) = ReadWithin room found
+abbrev pub Further : ℕ → ℕ → ControlFlow (Result ℕ Complaint) ℕ → Type 0
+Further room end (Continue next) = (end < next) × (next < room)
+Further room end (Break found) = ReadWithin room found
 
 pub further : (room end : ℕ) (came : Came) (part : ℕ) → end < room → CameWithin part came
     → Further room end (read_on room end came)
@@ -64,17 +62,17 @@ complaint_short complaint.Start = omega arith
 complaint_short complaint.Long = omega arith
 complaint_short complaint.Failed = omega arith
 
-error_short : (asks : Asked) (found : Input) (space : List ℕ) → length (wrapped_of asks found space).error ≤ 64
-error_short (asked.Wrong which) found space = complaint_short which
-error_short (asked.Wrap size start) (input.Wrong which) space = complaint_short which
-error_short (asked.Wrap size start) (input.Image count) space = omega arith
+error_short : (asks : Result Asked Complaint) (found : Result ℕ Complaint) (space : List ℕ) → length (wrapped_of asks found space).error ≤ 64
+error_short (Err which) found space = complaint_short which
+error_short (Ok asked) (Err which) space = complaint_short which
+error_short (Ok asked) (Ok count) space = omega arith
 
 -- a record has ten bytes more than its image
-output_short : (asks : Asked) (found : Input) (space : List ℕ) → ReadFor asks 65536 found
+output_short : (asks : Result Asked Complaint) (found : Result ℕ Complaint) (space : List ℕ) → ReadFor asks 65536 found
     → length (wrapped_of asks found space).output ≤ 65546
-output_short (asked.Wrong which) found space h = omega arith
-output_short (asked.Wrap size start) (input.Wrong which) space h = omega arith
-output_short (asked.Wrap size start) (input.Image count) space h = omega (arith, length-take count space)
+output_short (Err which) found space h = omega arith
+output_short (Ok asked) (Err which) space h = omega arith
+output_short (Ok asked) (Ok count) space h = omega (arith, length-take count space)
 
 -- so each text stands whole at the front of its buffer
 stands_whole : (buffer text : List ℕ) (end : ℕ) (after : List ℕ) → length text ≤ length buffer → Puts buffer 0 text end after
@@ -84,7 +82,7 @@ stands_whole buffer text end after room p =
     let all : end ≡ length text = omega arith in
     (all, q.1, subst (λ (n : ℕ). take n after ≡ text) all q.2)
 
-pub wraps : (asks : Asked) (space out line out' line' : List ℕ) (lengths : Lengths) (report : Report) → length out ≡ 65546
+pub wraps : (asks : Result Asked Complaint) (space out line out' line' : List ℕ) (lengths : Lengths) (report : Report) → length out ≡ 65546
     → length line ≡ 64
     → ReadFor asks 65536 report.input
     → WrappedPut (wrapped_of asks report.input space) out line out' line' lengths

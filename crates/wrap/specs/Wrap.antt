@@ -1,59 +1,52 @@
 -- What the program `wrap SIZE START` makes of its arguments and its input, and all that it writes.
-use Rattle.std.specs.Prelude.{ℕ, ◌+◌, ◌<◌, ◌≡◌, ◌⊎◌, true, cond, List, [], length, take, eqb, ltb}
+use Rattle.std.specs.Prelude.{ℕ, ◌+◌, ◌<◌, ◌≡◌, ◌⊎◌, true, cond, List, [], length, take, eqb, ltb, Option, Some, None, Result, Ok, Err}
+use Rattle.std.specs.declared.ops.ControlFlow.{ControlFlow}
+use Rattle.std.specs.declared.ops.ControlFlow.TheVariants.{Break, Continue}
 use Rattle.record_make.specs.Making.{record_of}
 use Rattle.text_input.specs.declared.Came.{Came}
 use Rattle.text_input.specs.declared.Came.TheVariants as came
 use Rattle.text_parse.specs.Parse.{parsed_of}
-use Rattle.text_parse.specs.declared.Parsed.{Parsed}
-use Rattle.text_parse.specs.declared.Parsed.TheVariants as parsed
 use Rattle.text_put.specs.Text.{spelled, put_at, end_of}
-use Rattle.wrap.specs.declared.Argument.{Argument}
-use Rattle.wrap.specs.declared.Argument.TheVariants as argument
 use Rattle.wrap.specs.declared.Asked.{Asked}
-use Rattle.wrap.specs.declared.Asked.TheVariants as asked
 use Rattle.wrap.specs.declared.Complaint.{Complaint}
 use Rattle.wrap.specs.declared.Complaint.TheVariants.{Usage, Size, Start, Long, Failed}
-use Rattle.wrap.specs.declared.Input.{Input}
-use Rattle.wrap.specs.declared.Input.TheVariants as input
 use Rattle.wrap.specs.declared.Lengths.{Lengths}
 use Rattle.wrap.specs.declared.Report.{Report}
-use Rattle.wrap.specs.declared.Stand.{Stand}
-use Rattle.wrap.specs.declared.Stand.TheVariants.{More, Done}
 
 -- WHAT THE ARGUMENTS ASK. SIZE and START are decimal numbers of one to five digits, below 65,536: a record has two bytes for each
-abbrev pub argument_by : Parsed → Argument
-argument_by (parsed.Number n) = cond (ltb n 65536) (argument.Is n) argument.Wrong
-argument_by parsed.Wrong = argument.Wrong
+abbrev pub argument_by : Option ℕ → Option ℕ
+argument_by (Some n) = cond (ltb n 65536) (Some n) None
+argument_by None = None
 
-abbrev pub argument_of : List ℕ → Argument
+abbrev pub argument_of : List ℕ → Option ℕ
 argument_of text = argument_by (parsed_of text)
 
 -- the first of the two that is wrong is complained of
-abbrev pub asked_by : Argument → Argument → Asked
-asked_by argument.Wrong start = asked.Wrong Size
-asked_by (argument.Is size) argument.Wrong = asked.Wrong Start
-asked_by (argument.Is size) (argument.Is start) = asked.Wrap size start
+abbrev pub asked_by : Option ℕ → Option ℕ → Result Asked Complaint
+asked_by None start = Err Size
+asked_by (Some size) None = Err Start
+asked_by (Some size) (Some start) = Ok (record { size = size; start = start })
 
 -- with the program's own name there are three
-abbrev pub asked_of : ℕ → List ℕ → List ℕ → Asked
-asked_of count size start = cond (eqb count 3) (asked_by (argument_of size) (argument_of start)) (asked.Wrong Usage)
+abbrev pub asked_of : ℕ → List ℕ → List ℕ → Result Asked Complaint
+asked_of count size start = cond (eqb count 3) (asked_by (argument_of size) (argument_of start)) (Err Usage)
 
 -- WHAT THE INPUT IS, one read after another. Where `end` bytes stand in a space of `room`: an image leaves room in the space, and a read
 -- that fails is not the image's end
-abbrev pub read_on : ℕ → ℕ → Came → Stand
-read_on room end (came.Bytes count) = cond (ltb (end + count) room) (More (end + count)) (Done (input.Wrong Long))
-read_on room end came.End = Done (input.Image end)
-read_on room end came.Failed = Done (input.Wrong Failed)
+abbrev pub read_on : ℕ → ℕ → Came → ControlFlow (Result ℕ Complaint) ℕ
+read_on room end (came.Bytes count) = cond (ltb (end + count) room) (Continue (end + count)) (Break (Err Long))
+read_on room end came.End = Break (Ok end)
+read_on room end came.Failed = Break (Err Failed)
 
 -- so it is an image that leaves room, or one of two complaints
-abbrev pub ReadWithin : ℕ → Input → Type 0
-ReadWithin room (input.Image count) = count < room
-ReadWithin room (input.Wrong complaint) = (complaint ≡ Long) ⊎ (complaint ≡ Failed)
+abbrev pub ReadWithin : ℕ → Result ℕ Complaint → Type 0
+ReadWithin room (Ok count) = count < room
+ReadWithin room (Err complaint) = (complaint ≡ Long) ⊎ (complaint ≡ Failed)
 
 -- where the arguments are wrong nothing is read, and what is wrong with them is what is wrong with the input
-abbrev pub ReadFor : Asked → ℕ → Input → Type 0
-ReadFor (asked.Wrap size start) room found = ReadWithin room found
-ReadFor (asked.Wrong complaint) room found = found ≡ input.Wrong complaint
+abbrev pub ReadFor : Result Asked Complaint → ℕ → Result ℕ Complaint → Type 0
+ReadFor (Ok asked) room found = ReadWithin room found
+ReadFor (Err complaint) room found = found ≡ Err complaint
 
 -- WHAT IS WRITTEN: a text on standard output, and one on standard error
 pub record Wrapped : Type 0 where
@@ -73,13 +66,13 @@ abbrev pub complained : Complaint → Wrapped
 complained complaint = record { output = []; error = complaint_line complaint }
 
 -- else the record of the image that stands at the front of the space is written, and nothing is told
-abbrev pub wrapped_by : ℕ → ℕ → Input → List ℕ → Wrapped
-wrapped_by size start (input.Image count) space = record { output = record_of (take count space) size start; error = [] }
-wrapped_by size start (input.Wrong complaint) space = complained complaint
+abbrev pub wrapped_by : Asked → Result ℕ Complaint → List ℕ → Wrapped
+wrapped_by asked (Ok count) space = record { output = record_of (take count space) asked.size asked.start; error = [] }
+wrapped_by asked (Err complaint) space = complained complaint
 
-abbrev pub wrapped_of : Asked → Input → List ℕ → Wrapped
-wrapped_of (asked.Wrap size start) found space = wrapped_by size start found space
-wrapped_of (asked.Wrong complaint) found space = complained complaint
+abbrev pub wrapped_of : Result Asked Complaint → Result ℕ Complaint → List ℕ → Wrapped
+wrapped_of (Ok asked) found space = wrapped_by asked found space
+wrapped_of (Err complaint) found space = complained complaint
 
 -- both texts put at the front of their buffers, as far as there is room, and where they end
 pub record WrappedPut (wrapped : Wrapped) (out line out' line' : List ℕ) (lengths : Lengths) : Type 0 where
@@ -90,7 +83,7 @@ pub record WrappedPut (wrapped : Wrapped) (out line out' line' : List ℕ) (leng
 
 -- ALL THAT THE PROGRAM DOES, from what the arguments ask: it reads what is asked for; the two buffers begin with the two texts; standard
 -- error is told as many bytes as its text has, and standard output, where it is open still, was handed as many as its own has
-pub record Wraps (asks : Asked) (space out line : List ℕ) (report : Report) : Type 0 where
+pub record Wraps (asks : Result Asked Complaint) (space out line : List ℕ) (report : Report) : Type 0 where
   pub read : ReadFor asks 65536 report.input
   pub output_made : take (length (wrapped_of asks report.input space).output) out ≡ (wrapped_of asks report.input space).output
   pub error_made : take (length (wrapped_of asks report.input space).error) line ≡ (wrapped_of asks report.input space).error

@@ -12,21 +12,14 @@ ghost use Rattle.wrap.specs.Wrap.{argument_of, asked_of, read_on, complaint_line
 use record_make as making;
 use std::env::{Env, FillError};
 use std::io::Stdin;
+use std::ops::ControlFlow;
 use text_input as input;
 use text_input::Came;
 use text_output as output;
 use text_output::Output;
 use text_parse as parse;
-use text_parse::Parsed;
 use text_parts as parts;
 use text_put as text;
-
-// SIZE or START, as it was given.
-#[derive(Clone, Copy)]
-enum Argument {
-    Is(u16),
-    Wrong,
-}
 
 // What is wrong with the arguments or the image.
 #[derive(Clone, Copy)]
@@ -44,26 +37,11 @@ enum Complaint {
 }
 
 // What the arguments ask.
+// Not an Image: numbers of two bytes, before there is an image.
 #[derive(Clone, Copy)]
-enum Asked {
-    Wrap { size: u16, start: u16 },
-    Wrong(Complaint),
-}
-
-// What the input is.
-#[derive(Clone, Copy)]
-enum Input {
-    // An image of so many bytes, which stand at the front of the space.
-    Image(usize),
-    Wrong(Complaint),
-}
-
-// Where the reading of an image stands.
-#[derive(Clone, Copy)]
-enum Stand {
-    // So many bytes stand in the space, and there may be more.
-    More(usize),
-    Done(Input),
+struct Asked {
+    size: u16,
+    start: u16,
 }
 
 // Where the texts for standard output and standard error end in their buffers.
@@ -73,44 +51,31 @@ struct Lengths {
     error: usize,
 }
 
-// What was read, how many bytes were told on standard error, and what became of standard output.
+// What was read, an image of so many bytes or a complaint, how many bytes were told on standard error, and what became of standard output.
 #[derive(Clone, Copy)]
 struct Report {
-    input: Input,
+    input: Result<usize, Complaint>,
     told: usize,
     output: Output,
 }
 
 // A text as a number of two bytes.
-fn argument_of(text: &[u8]) -> Argument
+fn argument_of(text: &[u8]) -> Option<u16>
     ensures { result ≡ argument_of text.now }
 {
-    match parse::number_of(text) {
-        Parsed::Wrong => Argument::Wrong,
-        Parsed::Number(n) => {
-            if n < 65536 {
-                Argument::Is(n as u16)
-            } else {
-                Argument::Wrong
-            }
-        }
-    }
+    u16::try_from(parse::number_of(text)?).ok()
 }
 
 // What the arguments ask, counted with the program's own name.
-fn asked_of(count: usize, size: &[u8], start: &[u8]) -> Asked
+fn asked_of(count: usize, size: &[u8], start: &[u8]) -> Result<Asked, Complaint>
     ensures { result ≡ asked_of count size.now start.now }
 {
     if count != 3 {
-        return Asked::Wrong(Complaint::Usage);
+        return Err(Complaint::Usage);
     }
-    let Argument::Is(size) = argument_of(size) else {
-        return Asked::Wrong(Complaint::Size);
-    };
-    let Argument::Is(start) = argument_of(start) else {
-        return Asked::Wrong(Complaint::Start);
-    };
-    Asked::Wrap { size, start }
+    let size = argument_of(size).ok_or(Complaint::Size)?;
+    let start = argument_of(start).ok_or(Complaint::Start)?;
+    Ok(Asked { size, start })
 }
 
 // One read into the space, behind the bytes that stand there.
@@ -122,74 +87,61 @@ fn read_behind(stdin: Stdin, space: &mut [u8], end: usize) -> Came
     input::read(stdin, &mut space[end..])
 }
 
-// Where the reading stands after one more read.
-fn read_on(room: usize, end: usize, came: Came) -> Stand
+// Where the reading stands after one more read: so many bytes stand in the space, and there may be more, or it is done.
+fn read_on(room: usize, end: usize, came: Came) -> ControlFlow<Result<usize, Complaint>, usize>
     requires { end ≤ room }
     ensures { result ≡ read_on room end came }
 {
     match came {
-        Came::Bytes(count) => {
-            if count < room - end {
-                Stand::More(end + count)
-            } else {
-                Stand::Done(Input::Wrong(Complaint::Long))
-            }
-        }
-        Came::End => Stand::Done(Input::Image(end)),
-        Came::Failed => Stand::Done(Input::Wrong(Complaint::Failed)),
+        Came::Bytes(count) if count < room - end => ControlFlow::Continue(end + count),
+        Came::Bytes(_) => ControlFlow::Break(Err(Complaint::Long)),
+        Came::End => ControlFlow::Break(Ok(end)),
+        Came::Failed => ControlFlow::Break(Err(Complaint::Failed)),
     }
 }
 
 // Reads an image into the space, which a record's image never fills.
 #[tactic(auto, using(crate::proofs::Laws::further))]
-fn read_image(stdin: Stdin, space: &mut [u8]) -> Input
+fn read_image(stdin: Stdin, space: &mut [u8]) -> Result<usize, Complaint>
     ensures { ReadWithin (length space.old) result }
 {
     let room = space.len();
     let mut end = 0;
+    // A while: a read gives as many bytes as it likes.
     while end < room {
         let came = read_behind(stdin, space, end);
         match read_on(room, end, came) {
-            Stand::More(next) => end = next,
-            Stand::Done(input) => return input,
+            ControlFlow::Continue(next) => end = next,
+            ControlFlow::Break(found) => return found,
         }
     }
-    Input::Wrong(Complaint::Long)
+    Err(Complaint::Long)
 }
 
 // Reads the image, where the arguments ask for it.
-fn read_asked(stdin: Stdin, asked: Asked, space: &mut [u8]) -> Input
+fn read_asked(
+    stdin: Stdin,
+    asked: Result<Asked, Complaint>,
+    space: &mut [u8],
+) -> Result<usize, Complaint>
     ensures { ReadFor asked (length space.old) result }
 {
     match asked {
-        Asked::Wrap { size: _, start: _ } => read_image(stdin, space),
-        Asked::Wrong(complaint) => Input::Wrong(complaint),
+        Ok(_) => read_image(stdin, space),
+        Err(complaint) => Err(complaint),
     }
 }
 
-// Puts the line of a complaint.
-fn put_complaint(line: &mut [u8], complaint: Complaint) -> usize
-    ensures value { result ≡ end_of line.old 0 (complaint_line complaint) }
-    ensures line_after { line.new ≡ put_at line.old 0 (complaint_line complaint) }
+// The line of a complaint.
+fn line_of(complaint: Complaint) -> &'static [u8]
+    ensures { result.now ≡ complaint_line complaint }
 {
     match complaint {
-        Complaint::Usage => text::put(line, 0, b"usage: wrap SIZE START < IMAGE > RECORD\n"),
-        Complaint::Size => {
-            text::put(
-                line,
-                0,
-                b"wrap: SIZE is not a decimal number from 0 to 65535\n",
-            )
-        }
-        Complaint::Start => {
-            text::put(
-                line,
-                0,
-                b"wrap: START is not a decimal number from 0 to 65535\n",
-            )
-        }
-        Complaint::Long => text::put(line, 0, b"wrap: the image has more than 65535 bytes\n"),
-        Complaint::Failed => text::put(line, 0, b"wrap: the image cannot be read\n"),
+        Complaint::Usage => b"usage: wrap SIZE START < IMAGE > RECORD\n",
+        Complaint::Size => b"wrap: SIZE is not a decimal number from 0 to 65535\n",
+        Complaint::Start => b"wrap: START is not a decimal number from 0 to 65535\n",
+        Complaint::Long => b"wrap: the image has more than 65535 bytes\n",
+        Complaint::Failed => b"wrap: the image cannot be read\n",
     }
 }
 
@@ -198,19 +150,25 @@ fn complain(line: &mut [u8], complaint: Complaint) -> Lengths
     ensures output_value { (result.output ≡ 0) × (result.error ≡ end_of line.old 0 (complaint_line complaint)) }
     ensures line_after { line.new ≡ put_at line.old 0 (complaint_line complaint) }
 {
-    let error = put_complaint(line, complaint);
+    let error = text::put(line, 0, line_of(complaint));
     Lengths { output: 0, error }
 }
 
 // Puts what is to be written of what was asked and read.
-fn put_wrapped(out: &mut [u8], line: &mut [u8], asked: Asked, input: Input, space: &[u8]) -> Lengths
+fn put_wrapped(
+    out: &mut [u8],
+    line: &mut [u8],
+    asked: Result<Asked, Complaint>,
+    input: Result<usize, Complaint>,
+    space: &[u8],
+) -> Lengths
     ensures { WrappedPut (wrapped_of asked input space.now) out.old line.old out.new line.new result }
 {
     match asked {
-        Asked::Wrong(complaint) => complain(line, complaint),
-        Asked::Wrap { size, start } => match input {
-            Input::Wrong(complaint) => complain(line, complaint),
-            Input::Image(count) => Lengths {
+        Err(complaint) => complain(line, complaint),
+        Ok(Asked { size, start }) => match input {
+            Err(complaint) => complain(line, complaint),
+            Ok(count) => Lengths {
                 output: making::put_record(out, parts::first(space, count), size, start),
                 error: 0,
             },
@@ -222,20 +180,16 @@ fn put_wrapped(out: &mut [u8], line: &mut [u8], asked: Asked, input: Input, spac
 fn tell_first(line: &[u8], n: usize) -> usize
     ensures { result ≡ min n (length line.now) }
 {
-    let told = parts::first(line, n);
-    output::tell(told);
-    told.len()
+    output::tell(parts::first(line, n))
 }
 
 // Writes the first n bytes of the buffer to standard output.
 fn write_first(out: &[u8], n: usize) -> Output
     ensures { result.open ≡ true → result.written ≡ min n (length out.now) }
 {
-    let fresh = Output {
-        written: 0,
-        open: true,
-    };
-    output::write(fresh, out, n)
+    let mut output = Output::fresh();
+    output.write(out, n);
+    output
 }
 
 // From the arguments, counted with the program's own name, and the input to what is written.

@@ -6,11 +6,11 @@ use Rattle.capi_script.proofs.khaonuat_script.Goals as goal
 pub loop-from-preserved : goal.loop-from-preserved
 loop-from-preserved c =
     let l = c.loop-from in
-    let told = c.answer_first-told in
+    let told = c.answer_first-end in
     let left = ap (length {A = ℕ}) c.behind-rest.ensures ∙ length-drop l.from c.args.script.now in (
       omega (arith, c.with_newline-from.ensures, left, c.loop-from-test.true),
       ap (length {A = ℕ}) told.ensures.lines ∙ length_put _ _ _ ∙ l.invariant.1,
-      playing_next c.args.out.now c.args.script.now _ _ _ _ _ _ _ _ c.loop-from-test.true c.behind-rest.ensures c.with_newline-from.ensures told.ensures
+      playing_next c.args.out.now c.args.script.now _ _ _ _ _ _ _ _ _ c.loop-from-test.true c.behind-rest.ensures c.with_newline-from.ensures told.ensures
           l.invariant.2,
     )
 

@@ -1,13 +1,6 @@
-use mathlib.Core.Path.{◌≡◌}
-use Prim.Native.Nat.{◌-◌, ◌≤◌}
-use lib.ListN.{length, take}
 use Rattle.text_digits.specs.Digits.{digit_at}
-use Rattle.console_decode.specs.Decode.{decoded}
+use Rattle.console_decode.specs.contracts.fn.read_sights.read_each as closure
 use Rattle.console_decode.proofs.read_sights.Given as goal
 
-abbrev pub invariant-loop-i : goal.invariant-loop-i
-invariant-loop-i l =
-    (l.i ≤ length l.fn.out) × (length l.out ≡ length l.fn.out) × (take l.i l.out ≡ decoded (digit_at l.text) l.i)
-
-abbrev pub decreases-loop-i : goal.decreases-loop-i
-decreases-loop-i l = length l.fn.out - l.i
+abbrev pub ghost-read_each : goal.ghost-read_each
+ghost-read_each a = digit_at (closure.captures a.number).text.now

@@ -1,13 +1,7 @@
-use mathlib.Core.Path.{◌≡◌}
-use Prim.Native.Nat.{◌-◌, ◌≤◌, ◌*◌}
-use lib.ListN.{length, take}
+use Rattle.std.proofs.Common.{◌*◌}
 use Rattle.text_digits.specs.Digits.{hex_word_at}
-use Rattle.console_decode.specs.Decode.{decoded}
+use Rattle.console_decode.specs.contracts.fn.read_words.read_each as closure
 use Rattle.console_decode.proofs.read_words.Given as goal
 
-abbrev pub invariant-loop-i : goal.invariant-loop-i
-invariant-loop-i l =
-    (l.i ≤ length l.fn.out) × (length l.out ≡ length l.fn.out) × (take l.i l.out ≡ decoded (λ k. hex_word_at l.text (4 * k)) l.i)
-
-abbrev pub decreases-loop-i : goal.decreases-loop-i
-decreases-loop-i l = length l.fn.out - l.i
+abbrev pub ghost-read_each : goal.ghost-read_each
+ghost-read_each a = λ i. hex_word_at (closure.captures a.number).text.now (4 * i)

@@ -14,4 +14,4 @@ take_turn-requires c =
 
 pub returns : goal.returns
 returns c =
-    ran_all c.args.words.now c.args.sights.now c.args.start c.args.out.now c.loop-i.i c.loop-i.held c.loop-i.head c.loop-i.out c.loop-i.invariant.0 (omega arith)
+    ran_all c.args.words.now c.args.sights.now c.args.head.now c.args.out.now c.loop-i.i c.loop-i.items c.loop-i.head c.loop-i.out c.loop-i.invariant.0 (omega arith)

@@ -7,4 +7,4 @@ pub returns : goal.returns
 returns c =
     let sent = part_length 20000 (length c.args.text.now / 2) (omega arith) in
     let room = part_zero 65535 c.args.count (omega arith) in
-    speaks_as (command_as (unit_of c.args.device) c.args.code c.args.text.now sent room) c.command_through.ensures
+    speaks_as (command_as (unit_of c.args.device.now) c.args.code c.args.text.now sent room) c.command_through.ensures

@@ -7,4 +7,4 @@ pub returns : goal.returns
 returns c =
     let steps = part_length 40000 (length c.args.text.now) (omega arith) in
     let list = part_zero 32768 (8 * c.args.room) (omega arith) in
-    speaks_as (run_as (unit_of c.args.device) c.args.text.now steps list) c.run_through.ensures
+    speaks_as (run_as (unit_of c.args.device.now) c.args.text.now steps list) c.run_through.ensures

@@ -24,7 +24,7 @@ returns-in_default-list_where c =
     let shown : List Item = cond (has_cursor c.args.marked c.args.code) (cursor_at c.args.size c.args.code c.args.beam c.args.at ∷ []) [] in
     let shorter = one_at_most (has_cursor c.args.marked c.args.code) (cursor_at c.args.size c.args.code c.args.beam c.args.at) in
     let one = simp (c.is_drawing.ensures, c.character-character.ensures) at c.list_where.ensures in
-    let k = taken (length c.args.out.now) c.args.held _ own (sym one.0 ∙ c.in-Held.is) in
+    let k = taken (length c.args.out.now) c.args.held _ own (sym one.0 ∙ c.in-Some.is) in
     let two = simp (c.has_cursor.ensures, c.cursor-shown.ensures) at c.list_where-2.ensures in
     not_full (length c.list_where.new.out) _ shown (omega (arith, c.requires, c.list_where.auto, k.more)) (sym two.0 ∙ c.in_default-list_where.is)
 
@@ -35,4 +35,4 @@ returns c =
     let one = simp (c.is_drawing.ensures, c.character-character.ensures) at c.list_where.ensures in
     let two = simp (c.has_cursor.ensures, c.cursor-shown.ensures) at c.list_where-2.ensures in
     simp code_drawn
-    (listed_on c.args.out.now c.list_where.new.out c.list_where-2.new.out c.args.held _ _ own shown (sym one.0 ∙ c.in-Held.is) one.1 (sym two.0 ∙ c.in-Held-list_where.is) two.1)
+    (listed_on c.args.out.now c.list_where.new.out c.list_where-2.new.out c.args.held _ _ own shown (sym one.0 ∙ c.in-Some.is) one.1 (sym two.0 ∙ c.in-Some-list_where.is) two.1)

@@ -11,7 +11,7 @@ loop-i-preserved c =
     let writes = c.requires in
     let plain = sym c.is_data.ensures ∙ c.if-not-is_data.false in
     let unseen = sym c.seen_of.ensures ∙ c.if-seen_of-ne0.false in
-    let bytes = simp (c.data_of-y.ensures, c.data_of-x.ensures) at c.after_codes-state.ensures in
+    let bytes = simp (c.data_of-y.ensures, c.data_of-x.ensures) at c.after_codes.ensures in
     let put = simp (c.is_here-c1.ensures, c.is_here-c0.ensures, c.data_of-y.ensures, c.data_of-x.ensures) at c.list_pair-n.ensures in
     simp bytes
     (on_codes c.args.words.now c.args.cursor c.args.sights.now c.args.start c.args.held c.args.out.now c.loop-i.i c.loop-i.state c.loop-i.n c.loop-i.out c.loop-i.invariant

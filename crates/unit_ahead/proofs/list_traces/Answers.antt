@@ -18,10 +18,10 @@ loop-i-preserved c = λ k.
     simp (c.span-span.ensures.0, placing, to)
     (on_trace c.args.words.now k c.args.sights.now c.args.start c.args.held c.args.out.now c.loop-i.i c.loop-i.state c.loop-i.n c.loop-i.out (c.loop-i.invariant k)
     (omega (arith, c.loop-i-test.true)) (omega (arith, c.if-end-at.false, c.clear_below-end.ensures)) plain unseen
-    c.args.vector c.requires _ _ (sym put.0 ∙ c.in-Held.is) put.1)
+    c.args.vector c.requires _ _ (sym put.0 ∙ c.in-Some.is) put.1)
 
-pub returns-after-loop-i : goal.returns-after-loop-i
-returns-after-loop-i c = λ k. on_done _ _ _ _ _ _ _ _ _ (c.loop-i.invariant k) _ refl refl
+pub returns : goal.returns
+returns c = λ k. on_done _ _ _ _ _ _ _ _ _ (c.loop-i.invariant k) _ (omega arith) refl
 
 pub returns-then-end-at : goal.returns-then-end-at
 returns-then-end-at c = λ k. on_done _ _ _ _ _ _ _ _ _ (c.loop-i.invariant k) _ refl refl

@@ -1,4 +1,4 @@
-use Rattle.std.proofs.Common.{◌≡◌, ◌≤◌, ◌-◌, ◌++◌, ℕ, Bool, List, length, take, drop}
+use Rattle.std.proofs.Common.{◌≡◌, ◌≤◌, ◌++◌, ℕ, Bool, List, length, take, drop}
 use Rattle.ground_setup.specs.declared.Size.{Size}
 use Rattle.unit_cursor.specs.Cursor.{Buffer, buffer}
 use Rattle.unit_buffer.specs.Buffer.{room_read, read_of, given_from, read_from}
@@ -13,6 +13,3 @@ pub record Reading (b : Buffer) (s : Size) (seek : Bool) (start : ℕ) (room₀ 
 
 abbrev pub invariant-loop-i : goal.invariant-loop-i
 invariant-loop-i l = Reading (buffer l.words l.fn.cursor) l.size l.seek l.fn.at l.initial.room l.room l.a l.i
-
-abbrev pub decreases-loop-i : goal.decreases-loop-i
-decreases-loop-i l = length l.room - l.i

@@ -1,4 +1,4 @@
-use Rattle.std.proofs.Common.{◌≡◌, ◌≤◌, ◌-◌, ℕ, List, length, drop}
+use Rattle.std.proofs.Common.{◌≡◌, ◌≤◌, ℕ, List, length, drop}
 use Rattle.ground_setup.specs.declared.Size.{Size}
 use Rattle.unit_cursor.specs.Cursor.{Buffer, buffer}
 use Rattle.unit_buffer.specs.Buffer.{bytes_written, written_from}
@@ -10,8 +10,5 @@ pub record Writing (b₀ : Buffer) (s : Size) (start : ℕ) (bytes : List ℕ) (
   pub long : length b.words ≡ length b₀.words
   pub left : bytes_written s start bytes b₀ ≡ written_from s a (drop i bytes) b
 
-abbrev pub invariant-loop-i : goal.invariant-loop-i
-invariant-loop-i l = Writing (buffer l.initial.words l.fn.cursor) l.size l.fn.at l.bytes (buffer l.words l.after) l.a l.i
-
-abbrev pub decreases-loop-i : goal.decreases-loop-i
-decreases-loop-i l = length l.bytes - l.i
+abbrev pub invariant-loop-byte : goal.invariant-loop-byte
+invariant-loop-byte l = Writing (buffer l.initial.words l.initial.cursor) l.size l.fn.at l.bytes (buffer l.words l.cursor) l.a l.byte-index

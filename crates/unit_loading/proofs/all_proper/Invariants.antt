@@ -1,11 +1,7 @@
-use Prim.Native.Nat.{◌≤◌, ◌-◌}
 use mathlib.Core.Path.{◌≡◌}
-use lib.ListN.{length, drop}
+use lib.ListN.{drop}
 use Rattle.unit_loading.specs.Loading.{all_proper}
 use Rattle.unit_loading.proofs.all_proper.Given as goal
 
-abbrev pub invariant-loop-i : goal.invariant-loop-i
-invariant-loop-i l = (l.i ≤ length l.dump) × (all_proper l.dump ≡ all_proper (drop l.i l.dump))
-
-abbrev pub decreases-loop-i : goal.decreases-loop-i
-decreases-loop-i l = length l.dump - l.i
+abbrev pub invariant-loop-word : goal.invariant-loop-word
+invariant-loop-word l = all_proper l.dump ≡ all_proper (drop l.word-index l.dump)

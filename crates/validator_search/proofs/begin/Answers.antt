@@ -8,10 +8,10 @@ use Rattle.validator_search.proofs.Levels.{begun}
 use Rattle.validator_search.proofs.begin.Goals as goal
 
 pub returns : goal.returns
-returns c =
+returns c = λ image.
     let a = c.args in
-    let S = fitted a.image.now a.setup a.start c.requires.0 in
+    let S = fitted image a.setup a.start c.requires.0 in
     let top : c.base_of.result + 3 * (c.last_of.result + 1) ≡ top_of a.setup.size = omega arith in
     let clear : c.clear.new.store ≡ cleared a.store.now (top_of a.setup.size) = c.clear.ensures ∙ ap (cleared a.store.now) top in
-    begun (plan_of a.image.now a.setup a.start) S a.store.now c.clear.new.store c.visit.new.store c.visit.result c.requires.1 clear
-    (c.visit.ensures a.image.now a.start S)
+    begun (plan_of image a.setup a.start) S a.store.now c.clear.new.store c.visit.new.store c.visit.result c.requires.1 clear
+    (c.visit.ensures image a.start 0 S (λ z. omega (arith, S.stacks)))

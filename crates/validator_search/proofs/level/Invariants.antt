@@ -1,9 +1,10 @@
 -- After each turn the level is in its midst, with a place less.
-use Rattle.validator_search.specs.Invariant.{plan_of, Next}
+use Rattle.std.proofs.Common.{ℕ, ◌<◌}
+use Rattle.validator_walks.specs.Places.{places_of}
+use Rattle.validator_search.specs.Invariant.{plan_of, Mid, Next, none, key_of}
 use Rattle.validator_search.proofs.level.Given as goal
 
-abbrev pub invariant-loop-left : goal.invariant-loop-left
-invariant-loop-left l = Next (plan_of l.image l.setup l.start) l.fn.store l.store l.side l.left l.t l.k l.key l.c
-
-abbrev pub decreases-loop-left : goal.decreases-loop-left
-decreases-loop-left l = l.left
+abbrev pub invariant-loop-rest : goal.invariant-loop-rest
+invariant-loop-rest l =
+    (start k c : ℕ) → start < places_of l.setup.size → Mid (plan_of l.image l.setup start) l.fn.store l.side l.m 0 k none c
+    → Next (plan_of l.image l.setup start) l.fn.store l.store l.side l.rest l.found.t k (key_of l.found.first) c

@@ -1,5 +1,6 @@
 -- A free place is marked and listed; a marked one changes nothing.
 use Rattle.std.proofs.Common.{◌≡◌, ℕ, List, ap, ◌∙◌, arith}
+use mathlib.Core.Bool.{false≢true}
 use Rattle.ground_setup.proofs.Laws.{sane}
 use Rattle.validator_store.specs.Layout.{base_of, cap_of}
 use Rattle.validator_store.specs.Store.{bit_of, marked, saved}
@@ -11,21 +12,24 @@ use Rattle.validator_search.proofs.visit.Goals as goal
 pub slot_at-requires : goal.slot_at-requires
 slot_at-requires c =
     let a = c.args in
+    let unmarked : ¬ (bit_of a.store.now a.q ≡ 1) = λ e. false≢true (c.if-seen.ensures.1 e) in
     let free : bit_of a.store.now a.q ≡ 0 = omega (arith, bit_of_lt a.store.now a.q) in
     omega (arith, c.requires.1.1 free)
 
 pub overflow_add-result : goal.overflow_add-result
 overflow_add-result c =
     let a = c.args in
+    let unmarked : ¬ (bit_of a.store.now a.q ≡ 1) = λ e. false≢true (c.if-seen.ensures.1 e) in
     let free : bit_of a.store.now a.q ≡ 0 = omega (arith, bit_of_lt a.store.now a.q) in
     omega (arith, c.requires.1.1 free, sane a.setup.size)
 
 pub returns : goal.returns
-returns c = λ image start S.
+returns c = λ image start rest S room.
     let a = c.args in
+    let unmarked : ¬ (bit_of a.store.now a.q ≡ 1) = λ e. false≢true (c.if-seen.ensures.1 e) in
     let free : bit_of a.store.now a.q ≡ 0 = omega (arith, bit_of_lt a.store.now a.q) in
     let left : c.save.new.store ≡ saved (marked a.store.now a.q) (slot a.side (base_of a.setup.size) (cap_of a.setup.size) a.t) a.q =
     c.save.ensures
     ∙ ap (λ (l : List ℕ). saved l c.slot_at.result a.q) c.mark.ensures
     ∙ ap (λ (x : ℕ). saved (marked a.store.now a.q) x a.q) c.slot_at.ensures in
-    rw left (visited (plan_of image a.setup start) S a.q a.store.now a.side a.rest a.t c.requires.0 free c.requires.1.0 (c.requires.1.1 free))
+    rw left (visited (plan_of image a.setup start) S a.q a.store.now a.side rest a.t c.requires.0 free c.requires.1.0 (room free))

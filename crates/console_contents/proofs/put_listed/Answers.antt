@@ -1,8 +1,0 @@
-use Rattle.text_put.proofs.Laws.{behind}
-use Rattle.console_contents.proofs.put_listed.Goals as goal
-
-pub returns : goal.returns
-returns c =
-    let p = behind _ _ _ _ _ _ _ _ (c.put_each-middle.ensures.value, c.put_each-middle.ensures.buffer_after)
-    (c.put.ensures.value, c.put.ensures.buffer_after) in
-    record { value = p.0; buffer_after = p.1 }
