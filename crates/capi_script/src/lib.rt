@@ -28,8 +28,7 @@ fn first_line(rest: &[u8]) -> &[u8]
 fn with_newline(rest: &[u8]) -> usize
     ensures { result ≡ min (index_of 10 rest.now + 1) (length rest.now) }
 {
-    let end = parse::index_of(b'\n', rest);
-    if end < rest.len() { end + 1 } else { end }
+    (parse::index_of(b'\n', rest) + 1).min(rest.len())
 }
 
 // Answers the first line.

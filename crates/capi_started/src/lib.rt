@@ -17,9 +17,8 @@ use ground_setup::Size;
 fn start_at(device: &mut Device, start: u16) -> Result<(), Refusal>
     ensures { start_leaves device.new result ≡ begun_by (starts_at (unit_of device.old) start) }
 {
-    let bytes = [(start / 0x100) as u8, (start % 0x100) as u8];
     let mut room = [0u8; 1];
-    device.command(0x27, &bytes, &mut room)?;
+    device.command(0x27, &start.to_be_bytes(), &mut room)?;
     Ok(())
 }
 

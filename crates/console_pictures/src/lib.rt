@@ -24,6 +24,7 @@ impl Printed for At {
 }
 
 // What ends the line of a point or vector: `off` where the screen was left, and the address.
+// The list's own numbers, as `left_text` and `item_line` take them: any number may stand there.
 #[derive(Clone, Copy)]
 struct Left(u16, u16);
 

@@ -7,7 +7,7 @@ use Rattle.text_digits.specs.Digits.{all_below, hex_byte_at, digit_at}
 use Rattle.text_parse.specs.Parse.{number_from}
 use Rattle.console_script.specs.declared.Request.TheVariants.{Fresh, Load, Command, Halt, SwitchOpen, SwitchClosed, Run, State, Words, Key, Cursor, Empty, Error}
 use Rattle.console_script.specs.Cases.{returned}
-use Rattle.console_script.specs.Script.{first_word, rest_of, lone, are_bytes, are_words, are_sights, load_in, room_in, command_in, run_in, range_in, code_in, key_in, argued_of, plain_of, request_of}
+use Rattle.console_script.specs.Script.{first_word, rest_of, lone, are_hex, are_sights, load_in, room_in, command_in, run_in, range_in, code_in, key_in, argued_of, plain_of, request_of}
 
 pub each_kind :
     map request_of
@@ -16,11 +16,11 @@ pub each_kind :
     ∷ spelled "key backspace" ∷ spelled "key jump" ∷ spelled "cursor" ∷ spelled "" ∷ spelled "# a box" ∷ [])
     ≡ Fresh 4096 ∷ Load 8192 ∷ Command 0x01 0 ∷ Command 0x0F 16 ∷ Halt ∷ SwitchOpen ∷ SwitchClosed ∷ Run 16 ∷ Run 16 ∷ State ∷ Words 10 2 ∷ Key 0xC1 ∷ Key 256
     ∷ Key 257 ∷ Key 258 ∷ Cursor ∷ Empty ∷ Empty ∷ []
-unfolding request_of plain_of argued_of first_word rest_of lone are_bytes are_words are_sights load_in room_in command_in run_in range_in code_in key_in all_below number_from index_of index_after hex_byte_at digit_at
+unfolding request_of plain_of argued_of first_word rest_of lone are_hex are_sights load_in room_in command_in run_in range_in code_in key_in all_below number_from index_of index_after hex_byte_at digit_at
 each_kind = refl
 
 pub all_errors : map request_of returned ≡ map (λ (line : List ℕ). Error) returned
-unfolding request_of plain_of argued_of first_word rest_of lone are_bytes are_words are_sights load_in room_in command_in run_in range_in code_in key_in all_below number_from index_of index_after
+unfolding request_of plain_of argued_of first_word rest_of lone are_hex are_sights load_in room_in command_in run_in range_in code_in key_in all_below number_from index_of index_after
 all_errors = refl
 
 pub passed_over : request_of (spelled "# a box" ++ (13 ∷ [])) ≡ Empty

@@ -23,12 +23,16 @@ lone line = eqb (index_of 32 line) (length line)
 abbrev pub same : List ℕ → List ℕ → Bool
 same = bytes_eq
 
--- bytes have two digits each, words four, sights one decimal digit each; none at all is no such text
-unfoldable pub are_bytes : List ℕ → Bool
-are_bytes text = cond (eqb (length text) 0) false (cond (eqb (length text % 2) 0) (all_below 16 text) false)
+-- hexadecimal numbers of so many digits each
+unfoldable pub are_hex : ℕ → List ℕ → Bool
+are_hex width text = cond (eqb (length text) 0) false (cond (eqb (length text % width) 0) (all_below 16 text) false)
 
-unfoldable pub are_words : List ℕ → Bool
-are_words text = cond (eqb (length text) 0) false (cond (eqb (length text % 4) 0) (all_below 16 text) false)
+-- bytes have two digits each, words four, sights one decimal digit each; none at all is no such text
+abbrev pub are_bytes : List ℕ → Bool
+are_bytes text = are_hex 2 text
+
+abbrev pub are_words : List ℕ → Bool
+are_words text = are_hex 4 text
 
 unfoldable pub are_sights : List ℕ → Bool
 are_sights text = cond (eqb (length text) 0) false (all_below 10 text)

@@ -3,8 +3,8 @@
 // The contracts cite `specs/Script.antt`.
 #![tactic(auto)]
 
-ghost use Rattle.std.specs.Prelude.{◌≡◌};
-ghost use Rattle.console_script.specs.Script.{first_word, rest_of, lone as Script·lone, are_bytes, are_words, are_sights, load_in, room_in, command_in, run_in, range_in, code_in, key_in, argued_of, plain_of, request_of};
+ghost use Rattle.std.specs.Prelude.{◌≡◌, ◌<◌};
+ghost use Rattle.console_script.specs.Script.{first_word, rest_of, lone as Script·lone, are_hex, are_sights, load_in, room_in, command_in, run_in, range_in, code_in, key_in, argued_of, plain_of, request_of};
 
 use text_digits as digits;
 use text_parse as parse;
@@ -31,6 +31,7 @@ pub enum Request {
 }
 
 // The first word of a line.
+// Beside `first_line` of capi_script, with another byte: each is the document's own term.
 #[tactic(auto, unfolding(crate::specs::Script::first_word))]
 fn first_word(line: &[u8]) -> &[u8]
     ensures { result.now ≡ first_word line.now }
@@ -56,20 +57,13 @@ fn lone(line: &[u8]) -> bool
     parse::index_of(b' ', line) == line.len()
 }
 
-// Whether a text is bytes of two digits each.
-#[tactic(auto, unfolding(crate::specs::Script::are_bytes))]
-fn is_bytes(text: &[u8]) -> bool
-    ensures { result ≡ are_bytes text.now }
+// Whether a text is hexadecimal numbers of so many digits each.
+#[tactic(auto, unfolding(crate::specs::Script::are_hex))]
+fn is_hex(width: usize, text: &[u8]) -> bool
+    requires { 0 < width }
+    ensures { result ≡ are_hex width text.now }
 {
-    text.len() != 0 && text.len() % 2 == 0 && digits::all_below(16, text)
-}
-
-// Whether a text is words of four digits each.
-#[tactic(auto, unfolding(crate::specs::Script::are_words))]
-fn is_words(text: &[u8]) -> bool
-    ensures { result ≡ are_words text.now }
-{
-    text.len() != 0 && text.len() % 4 == 0 && digits::all_below(16, text)
+    text.len() != 0 && text.len() % width == 0 && digits::all_below(16, text)
 }
 
 // Whether a text is sights of one digit each.
@@ -85,7 +79,7 @@ fn is_sights(text: &[u8]) -> bool
 fn load_of(rest: &[u8]) -> Request
     ensures { result ≡ load_in rest.now }
 {
-    if !is_words(rest_of(rest)) {
+    if !is_hex(4, rest_of(rest)) {
         return Request::Error;
     }
     parse::number_of(first_word(rest)).map_or(Request::Error, Request::Load)
@@ -96,7 +90,7 @@ fn load_of(rest: &[u8]) -> Request
 fn room_of(code: u8, rest: &[u8]) -> Request
     ensures { result ≡ room_in code rest.now }
 {
-    if !lone(rest) && !is_bytes(rest_of(rest)) {
+    if !lone(rest) && !is_hex(2, rest_of(rest)) {
         return Request::Error;
     }
     match parse::number_of(first_word(rest)) {
@@ -161,16 +155,12 @@ fn code_of(rest: &[u8]) -> Request
 fn key_of(rest: &[u8]) -> Request
     ensures { result ≡ key_in rest.now }
 {
-    if rest == b"advance".as_slice() {
-        return Request::Key(256);
+    match rest {
+        b"advance" => Request::Key(256),
+        b"backspace" => Request::Key(257),
+        b"jump" => Request::Key(258),
+        _ => code_of(rest),
     }
-    if rest == b"backspace".as_slice() {
-        return Request::Key(257);
-    }
-    if rest == b"jump".as_slice() {
-        return Request::Key(258);
-    }
-    code_of(rest)
 }
 
 // A request with arguments, by its first word.
@@ -178,25 +168,15 @@ fn key_of(rest: &[u8]) -> Request
 fn argued_of(word: &[u8], rest: &[u8]) -> Request
     ensures { result ≡ argued_of word.now rest.now }
 {
-    if word == b"command".as_slice() {
-        return command_of(rest);
+    match word {
+        b"command" => command_of(rest),
+        b"run" => run_of(rest),
+        b"words" => words_of(rest),
+        b"load" => load_of(rest),
+        b"fresh" => parse::number_of(rest).map_or(Request::Error, Request::Fresh),
+        b"key" => key_of(rest),
+        _ => Request::Error,
     }
-    if word == b"run".as_slice() {
-        return run_of(rest);
-    }
-    if word == b"words".as_slice() {
-        return words_of(rest);
-    }
-    if word == b"load".as_slice() {
-        return load_of(rest);
-    }
-    if word == b"fresh".as_slice() {
-        return parse::number_of(rest).map_or(Request::Error, Request::Fresh);
-    }
-    if word == b"key".as_slice() {
-        return key_of(rest);
-    }
-    Request::Error
 }
 
 // A request of a line that is not passed over.
@@ -204,6 +184,7 @@ fn argued_of(word: &[u8], rest: &[u8]) -> Request
 fn plain_of(line: &[u8]) -> Request
     ensures { result ≡ plain_of line.now }
 {
+    // Not a match as in `argued_of`: with words this long its default did not close.
     if line == b"state".as_slice() {
         return Request::State;
     }

@@ -205,8 +205,7 @@ fn keyed(
     ensures { Speaks (key_said (key_leaves device.now answer)) lines.old at lines.new device.now result }
 {
     match answer {
-        Ok(None) => replies::put_heard(lines, at, false),
-        Ok(Some(_)) => replies::put_heard(lines, at, true),
+        Ok(heard) => replies::put_heard(lines, at, heard.is_some()),
         Err(refusal) => replies::put_refused(lines, at, u8::from(refusal)),
     }
 }

@@ -48,6 +48,7 @@ pub fn put_answer(
 ) -> usize
     ensures { LineAnswered (payload_of kind payload.now) (drop 4 payload.now) number store.old store.new lines.old at lines.new result }
 {
+    // A match: by `and_then`, whose closure borrows the store, `LineAnswered` did not close.
     let verdict = match records::read_payload(kind, payload) {
         Ok(Image { size, start }) => {
             validator::validate(parts::behind(payload, 4), size, start, store)

@@ -3,7 +3,7 @@
 // The contracts cite `specs/Records.antt`.
 #![tactic(auto)]
 
-ghost use Rattle.std.specs.Prelude.{◌≡◌, ◌+◌, ◌*◌, ◌<◌, ◌≤◌};
+ghost use Rattle.std.specs.Prelude.{◌≡◌, ◌<◌, ◌≤◌};
 ghost use Rattle.record_format.specs.Records.{header_of, HeaderWithin, kind_row, needed_in, cut_of, payload_of};
 
 use ground_refusals::Refusal;
@@ -23,13 +23,6 @@ pub struct Image {
     pub start: usize,
 }
 
-// Two bytes as a number, the low one first.
-fn two(low: u8, high: u8) -> usize
-    ensures { (result ≡ low + 256 * high) × (result < 65536) }
-{
-    low as usize + 256 * (high as usize)
-}
-
 // What the bytes that the input had for a header are: at most six are looked at.
 #[tactic(auto, unfolding(crate::specs::Records::length_in, crate::specs::Records::kind_in))]
 pub fn read_header(bytes: &[u8]) -> Header
@@ -41,8 +34,8 @@ pub fn read_header(bytes: &[u8]) -> Header
     if bytes.len() < 6 {
         return Header::Cut;
     }
-    let length = two(bytes[0], bytes[1]) + 65536 * two(bytes[2], bytes[3]);
-    let kind = two(bytes[4], bytes[5]);
+    let length = u32::from_le_bytes([bytes[0], bytes[1], bytes[2], bytes[3]]) as usize;
+    let kind = usize::from(u16::from_le_bytes([bytes[4], bytes[5]]));
     Header::Record { length, kind }
 }
 
@@ -77,7 +70,7 @@ pub fn read_payload(kind: usize, payload: &[u8]) -> Result<Image, Refusal>
         return Err(Refusal::CutOrShort);
     }
     Ok(Image {
-        size: two(payload[0], payload[1]),
-        start: two(payload[2], payload[3]),
+        size: usize::from(u16::from_le_bytes([payload[0], payload[1]])),
+        start: usize::from(u16::from_le_bytes([payload[2], payload[3]])),
     })
 }

@@ -21,7 +21,7 @@ pub const KEPT: usize = 32779;
 pub fn open_at(seen: usize, kept: &[u8]) -> usize
     ensures { (result ≡ open_at seen kept.now) × (result < 4294967302) }
 {
-    let Header::Record { length, kind: _ } = records::read_header(kept) else {
+    let Header::Record { length, .. } = records::read_header(kept) else {
         return 0;
     };
     if seen < 6 + length { seen } else { 0 }
@@ -32,11 +32,7 @@ pub fn open_of(found: Found) -> usize
     ensures { result ≡ open_of found }
 {
     match found {
-        Found::Whole {
-            direct: _,
-            count: _,
-            used: _,
-        } => 0,
+        Found::Whole { .. } => 0,
         Found::Open(seen) => seen,
     }
 }
@@ -45,7 +41,7 @@ pub fn open_of(found: Found) -> usize
 fn whole(piece: &[u8]) -> Option<usize>
     ensures { IfSome result (λ n. (6 ≤ length piece.now) × (n ≡ extent_of piece.now) × (n ≤ length piece.now)) }
 {
-    let Header::Record { length, kind: _ } = records::read_header(piece) else {
+    let Header::Record { length, .. } = records::read_header(piece) else {
         return None;
     };
     if piece.len() < 6 + length {

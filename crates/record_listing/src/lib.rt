@@ -10,6 +10,7 @@ ghost use Rattle.record_intake.specs.Intake.{open_at};
 ghost use Rattle.record_answer.specs.Answer.{LineAnswered};
 ghost use Rattle.record_listing.specs.Listing.{last_line, Feeds, StoreLeft, Stops};
 
+use ground_refusals::Refusal;
 use record_answer as answer;
 use record_format as records;
 use record_format::Header;
@@ -32,7 +33,7 @@ fn put_line(out: &mut [u8], at: usize, number: usize, whole: &[u8], store: &mut 
     requires { 6 ≤ length whole.now }
     ensures { LineAnswered (payload_of (kind_in whole.now) (drop 6 whole.now)) (drop 10 whole.now) number store.old store.new out.old at out.new result }
 {
-    let Header::Record { length: _, kind } = records::read_header(whole) else {
+    let Header::Record { kind, .. } = records::read_header(whole) else {
         return at;
     };
     answer::put_answer(out, at, number, kind, parts::behind(whole, 6), store)
@@ -124,11 +125,14 @@ fn put_last(out: &mut [u8], number: usize, head: Header) -> usize
     ensures out_after { out.new ≡ put_at out.old 0 (last_line number head) }
 {
     match head {
-        Header::Record { length: _, kind } => {
+        Header::Record { kind, .. } => {
             let refusal = records::read_cut(kind);
             lines::put_refused(out, 0, number, usize::from(u8::from(refusal)))
         }
-        Header::Cut => lines::put_refused(out, 0, number, 6),
+        Header::Cut => {
+            let refusal = usize::from(u8::from(Refusal::CutOrShort));
+            lines::put_refused(out, 0, number, refusal)
+        }
         Header::End => 0,
     }
 }

@@ -1,4 +1,5 @@
 -- More input comes to a listing that has taken in what came before.
+-- A proof, of the law `more` that the impl in src/ names: what an impl's law names has to lie in specs/.
 use Prim.Native.Nat.{ℕ}
 use mathlib.Core.List.{List, [], ◌++◌}
 use native.Mathlib.Omega.{arith}

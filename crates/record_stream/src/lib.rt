@@ -51,7 +51,6 @@ impl Listener<32768> for Lister {
 }
 
 // Lists standard input on standard output. That it cannot be read is told, and nothing is closed.
-// Beside console_stream's hold: each lends its own buffers, and text_stream does the rest.
 pub fn list(stdin: Stdin) -> Streamed
     ensures { Lists result }
 {

@@ -4,7 +4,6 @@
 #![tactic(auto)]
 
 ghost use Rattle.std.specs.Prelude.{◌≡◌, not, ◌&&◌};
-ghost use Rattle.unit_step.specs.Step.{state_at};
 ghost use Rattle.typing_signs.specs.Signs.{code_at, order_at};
 ghost use Rattle.typing_fields.specs.Fields.{code_field};
 ghost use Rattle.typing_jump.specs.Jump.{open_in, landing_by, hop_of, jump_from, steps_in, jump_of};
@@ -63,7 +62,7 @@ fn hop_of(words: &[u16], state: State) -> ControlFlow<Option<usize>, State>
     }
     match step::step_from(words, state, 0) {
         Stepped::Goes(next) => Continue(next),
-        Stepped::Stops(_, _) => Break(None),
+        Stepped::Stops(..) => Break(None),
     }
 }
 
@@ -89,23 +88,12 @@ fn steps_in(size: Size) -> usize
     setup::size_of(size) / 2 * 7 * 48
 }
 
-// The state at the cursor's place, in its field's mode.
-fn start_at(state: State, address: usize, mode: Mode) -> State
-    ensures { result ≡ state_at state address mode }
-{
-    State {
-        address,
-        mode,
-        ..state
-    }
-}
-
 // Where jump takes a cursor: nowhere where it stays.
 #[tactic(auto, unfolding(crate::specs::Jump::jump_of))]
 pub fn jump_to(words: &[u16], state: State, cursor: usize, mode: Mode) -> Option<usize>
     ensures { result ≡ jump_of words.now state cursor mode }
 {
     let size = state.setup.size;
-    let start = start_at(state, signs::even(size, cursor), mode);
+    let start = step::at_place(state, signs::even(size, cursor), mode);
     jump_from(words, steps_in(size), start)
 }

@@ -6,7 +6,7 @@
 ghost use Rattle.std.specs.Prelude.{◌≡◌, not, ◌&&◌, List, ℕ, ◌<◌, ◌≤◌, Ok, take};
 ghost use Rattle.unit_head.specs.Head.{unit};
 ghost use Rattle.unit_step.specs.Run.{steps_at, is_idle};
-ghost use Rattle.unit_advance.specs.Advance.{stop_number, end_number, progress_over, used_by, all_sights, stop_status, stop_sense, status_after, sense_after, advance_ended, advanced_by, gone_over, unit_advance, idle_advance};
+ghost use Rattle.unit_advance.specs.Advance.{stop_number, end_number, progress_over, used_by, all_sights, stop_status, stop_sense, advance_ended, advanced_by, gone_over, unit_advance, idle_advance};
 
 use ground_orders::Mode;
 use ground_refusals::Refusal;
@@ -75,10 +75,8 @@ fn steps_at(stop: Stop) -> usize
     ensures { (result ≡ steps_at stop) × (result ≤ 1) }
 {
     match stop {
-        Stop::Fault(_) => 0,
-        Stop::EndOrder => 1,
-        Stop::Detect => 1,
-        Stop::DataCheck => 0,
+        Stop::Fault(_) | Stop::DataCheck => 0,
+        Stop::EndOrder | Stop::Detect => 1,
     }
 }
 
@@ -129,6 +127,7 @@ fn advance_from(words: &[u16], sights: &[u8], start: State, idle: bool) -> Progr
 }
 
 // Whether no sight is above 2.
+// No early end: the greatest is asked for, which the compiler does sixteen at a time (docs/BENCHMARK.md).
 #[tactic(auto, using(crate::proofs::Sights::greatest_more, crate::proofs::Sights::greatest_all))]
 pub fn all_sights(sights: &[u8]) -> bool
     ensures { result ≡ all_sights sights.now }
@@ -141,15 +140,12 @@ pub fn all_sights(sights: &[u8]) -> bool
 }
 
 // The waiting status after a stop.
-// A match: status bits of 01, one arm to a stop.
 fn stop_status(stop: Stop, status: u8) -> u8
     ensures { result ≡ stop_status stop status }
 {
     match stop {
         Stop::Fault(_) => status,
-        Stop::EndOrder => 0x82,
-        Stop::Detect => 0x82,
-        Stop::DataCheck => 0x82,
+        Stop::EndOrder | Stop::Detect | Stop::DataCheck => 0x82,
     }
 }
 
@@ -165,36 +161,15 @@ fn stop_sense(stop: Stop, sense: Sense) -> Sense
     }
 }
 
-// The waiting status after an end.
-fn status_after(end: End, status: u8) -> u8
-    ensures { result ≡ status_after end status }
-{
-    match end {
-        End::SightsUsed => status,
-        End::Stopped(stop) => stop_status(stop, status),
-        End::NotRunning => status,
-    }
-}
-
-// The sense bits after an end.
-// Beside status_after: the same three cases over another value, and one generic function would need both stops' cases handed to it.
-fn sense_after(end: End, sense: Sense) -> Sense
-    ensures { result ≡ sense_after end sense }
-{
-    match end {
-        End::SightsUsed => sense,
-        End::Stopped(stop) => stop_sense(stop, sense),
-        End::NotRunning => sense,
-    }
-}
-
 // Moves the head where advancing has come to, and answers.
 fn advanced_by(head: &mut Head, progress: Progress) -> Advanced
     ensures { (words : List ℕ) → advance_ended words head.new (Ok result) ≡ advanced_by (unit words head.old) progress }
 {
     head.state = progress.state;
-    head.status = status_after(progress.end, head.status);
-    head.sense = sense_after(progress.end, head.sense);
+    if let End::Stopped(stop) = progress.end {
+        head.status = stop_status(stop, head.status);
+        head.sense = stop_sense(stop, head.sense);
+    }
     Advanced {
         steps: progress.steps,
         end: progress.end,

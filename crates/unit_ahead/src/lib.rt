@@ -100,10 +100,7 @@ fn list_traces(
     let mut n = held;
     for (i, sight) in sights.iter().enumerate() {
         let at = state.address;
-        if end <= at {
-            return AheadListed { steps: i, held: n };
-        }
-        if pen::seen_of(start.pen, *sight) != 0 {
+        if end <= at || pen::seen_of(start.pen, *sight) != 0 {
             return AheadListed { steps: i, held: n };
         }
         let a = words[at];
@@ -216,13 +213,7 @@ fn list_codes(
     let mut n = held;
     for (i, sight) in sights.iter().enumerate() {
         let at = state.address;
-        if end <= at {
-            return AheadListed { steps: i, held: n };
-        }
-        if is_tight(n, out.len() / 8) {
-            return AheadListed { steps: i, held: n };
-        }
-        if pen::seen_of(start.pen, *sight) != 0 {
+        if end <= at || is_tight(n, out.len() / 8) || pen::seen_of(start.pen, *sight) != 0 {
             return AheadListed { steps: i, held: n };
         }
         let a = words[at];
@@ -273,10 +264,10 @@ pub fn list_ahead(
 {
     match state.mode {
         Mode::Idle => AheadListed { steps: 0, held },
-        Mode::Point => list_traces(words, state, false, sights, held, out),
-        Mode::Vector => list_traces(words, state, true, sights, held, out),
-        Mode::IncrementalPoint => list_traces(words, state, false, sights, held, out),
-        Mode::IncrementalVector => list_traces(words, state, true, sights, held, out),
+        Mode::Point | Mode::IncrementalPoint => list_traces(words, state, false, sights, held, out),
+        Mode::Vector | Mode::IncrementalVector => list_traces(
+            words, state, true, sights, held, out,
+        ),
         Mode::Basic => {
             let letters = CharacterSize::Basic;
             list_codes(words, cursor, state, letters, sights, held, out)

@@ -14,11 +14,11 @@ use unit_cursor::Cursor;
 use unit_pen as pen;
 use unit_pen::Pen;
 
-// What a step of regeneration goes by: what the unit is built with, and what moves.
+// What a step of regeneration goes by: what the unit is built with, and what moves. The address stands first, so that a copy has no gap.
 #[derive(Clone, Copy)]
 pub struct State {
-    pub setup: Setup,
     pub address: usize,
+    pub setup: Setup,
     pub mode: Mode,
     pub running: bool,
     pub beam: Beam,

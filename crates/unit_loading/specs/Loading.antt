@@ -1,5 +1,6 @@
 -- Loading a dump (01, "Locations and the device").
-use Rattle.std.specs.Prelude.{ℕ, Bool, true, cond, ◌&&◌, List, [], ◌∷◌, eqb, length, replicate, Err, Ok, Result}
+use Rattle.std.specs.Prelude.{ℕ, Bool, cond, List, eqb, length, replicate, Err, Ok, Result}
+use Rattle.std.specs.List.{list_all}
 use Rattle.std.proofs.lemmas.List.Edits.{sets}
 use Rattle.ground_location.specs.Location.{fresh_word, proper_of}
 use Rattle.ground_setup.specs.Setup.{size_of, sized_of}
@@ -13,8 +14,7 @@ use Rattle.unit_head.specs.declared.Head.{Head}
 
 -- no word of a dump has an unused bit set
 unfoldable pub all_proper : List ℕ → Bool
-all_proper [] = true
-all_proper (w ∷ ws) = proper_of w && all_proper ws
+all_proper dump = list_all proper_of dump
 
 -- "A dump is a list of such words for the whole buffer"; "a 4,096 unit never uses the upper half": of the n words of the array those behind
 -- the dump are fresh

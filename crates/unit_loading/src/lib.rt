@@ -21,12 +21,7 @@ use unit_head::Head;
 fn all_proper(dump: &[u16]) -> bool
     ensures { result ≡ all_proper dump.now }
 {
-    for word in dump {
-        if !location::proper(*word) {
-            return false;
-        }
-    }
-    true
+    dump.iter().all(|word| location::proper(*word))
 }
 
 // Puts a dump into the first words, as far as there is room.

@@ -3,7 +3,7 @@
 // The contracts cite `specs/Sense.antt`.
 #![tactic(auto)]
 
-ghost use Rattle.std.specs.Prelude.{◌≡◌, cond, not, ◌&&◌, ◌||◌, ◌≤◌, ◌<◌, ltb, set};
+ghost use Rattle.std.specs.Prelude.{◌≡◌, not, ◌&&◌, ◌||◌, ◌≤◌, ◌<◌, set};
 ghost use Rattle.unit_sense.specs.Sense.{sensing, sense_given, sense_joined, flagged, is_character, sense_zero, sense_one, sense_address, four_in, four_count, sense_in};
 
 use ground_orders::Mode;
@@ -54,7 +54,7 @@ pub fn joined(sense: Sense, check: bool, detect: bool, ended: bool) -> Sense
 fn bit_of(on: bool, mask: u8) -> u8
     ensures { (result ≡ flagged on mask) × (result ≤ mask) }
 {
-    if on { mask } else { 0 }
+    u8::from(on) * mask
 }
 
 // Sense byte 0.

@@ -48,7 +48,7 @@ pub fn is_idle(mode: Mode) -> bool
 }
 
 // The state at another address and mode.
-fn at_place(state: State, address: usize, mode: Mode) -> State
+pub fn at_place(state: State, address: usize, mode: Mode) -> State
     ensures { result ≡ state_at state address mode }
 {
     State {
@@ -86,10 +86,8 @@ fn stopped_at(state: State, address: usize, mode: Mode) -> State
     ensures { result ≡ stopped state address mode }
 {
     State {
-        address,
-        mode,
         running: false,
-        ..state
+        ..at_place(state, address, mode)
     }
 }
 
@@ -144,8 +142,7 @@ fn step_to(state: State, to: Beam, hit: Option<Hit>, look: Look) -> Stepped
         Look::End(next) => Stepped::Stops(stopped_at(state, next, Mode::Idle), Stop::EndOrder),
         Look::Jump(target) => Stepped::Goes(at_place(state, target, Mode::Idle)),
         Look::Either(target, next) => either_by(state, target, next, pen::is_transferring(pen)),
-        Look::Two(_, _, next) => data_by(state, to, next, hit),
-        Look::Four(_, _, _, _, next) => data_by(state, to, next, hit),
+        Look::Two(.., next) | Look::Four(.., next) => data_by(state, to, next, hit),
     }
 }
 

@@ -45,10 +45,7 @@ pub fn over(words: &[u16], start: State, sights: &[u8]) -> Stretch
     let mut state = start;
     for (i, sight) in sights.iter().enumerate() {
         let at = state.address;
-        if end <= at {
-            return Stretch { steps: i, state };
-        }
-        if sees(idle, start.pen, *sight) {
+        if end <= at || sees(idle, start.pen, *sight) {
             return Stretch { steps: i, state };
         }
         let a = words[at];

@@ -126,10 +126,8 @@ fn read_asked(
 ) -> Result<usize, Complaint>
     ensures { ReadFor asked (length space.old) result }
 {
-    match asked {
-        Ok(_) => read_image(stdin, space),
-        Err(complaint) => Err(complaint),
-    }
+    asked?;
+    read_image(stdin, space)
 }
 
 // The line of a complaint.

@@ -1,5 +1,6 @@
 use mathlib.Core.Path.{refl, sym, subst}
 use mathlib.Core.Bool.{true, false}
+use mathlib.Core.Logic.{⊎_elim}
 use Rattle.ground_orders.specs.declared.Mode.{Mode}
 use Rattle.unit_cursor.specs.Cursor.{buffer}
 use Rattle.unit_ahead.specs.Ahead.{Traces}
@@ -7,16 +8,12 @@ use Rattle.unit_ahead.proofs.Laws.{on_none, on_done, points_trace, vectors_trace
 use Rattle.unit_ahead.proofs.list_ahead.Goals as goal
 
 pub list_traces-requires : goal.list_traces-requires
-list_traces-requires c = subst (λ (m : Mode). Traces m false) (sym c.in-Point.is) points_trace
+list_traces-requires c =
+    ⊎_elim (λ e. subst (λ (m : Mode). Traces m false) (sym e) points_trace) (λ e. subst (λ (m : Mode). Traces m false) (sym e) steps_point) c.in-Point.is
 
 pub list_traces-requires-in-Vector : goal.list_traces-requires-in-Vector
-list_traces-requires-in-Vector c = subst (λ (m : Mode). Traces m true) (sym c.in-Vector.is) vectors_trace
-
-pub list_traces-requires-in-IncrementalPoint : goal.list_traces-requires-in-IncrementalPoint
-list_traces-requires-in-IncrementalPoint c = subst (λ (m : Mode). Traces m false) (sym c.in-IncrementalPoint.is) steps_point
-
-pub list_traces-requires-in-IncrementalVector : goal.list_traces-requires-in-IncrementalVector
-list_traces-requires-in-IncrementalVector c = subst (λ (m : Mode). Traces m true) (sym c.in-IncrementalVector.is) steps_trace
+list_traces-requires-in-Vector c =
+    ⊎_elim (λ e. subst (λ (m : Mode). Traces m true) (sym e) vectors_trace) (λ e. subst (λ (m : Mode). Traces m true) (sym e) steps_trace) c.in-Vector.is
 
 pub returns-in-Idle : goal.returns-in-Idle
 returns-in-Idle c =

@@ -26,9 +26,6 @@ returns c = λ k. on_done _ _ _ _ _ _ _ _ _ (c.loop-i.invariant k) _ (omega arit
 pub returns-then-end-at : goal.returns-then-end-at
 returns-then-end-at c = λ k. on_done _ _ _ _ _ _ _ _ _ (c.loop-i.invariant k) _ refl refl
 
-pub returns-then-seen_of-ne0 : goal.returns-then-seen_of-ne0
-returns-then-seen_of-ne0 c = λ k. on_done _ _ _ _ _ _ _ _ _ (c.loop-i.invariant k) _ refl refl
-
 pub returns-then-not-is_data : goal.returns-then-not-is_data
 returns-then-not-is_data c = λ k. on_done _ _ _ _ _ _ _ _ _ (c.loop-i.invariant k) _ refl refl
 
