@@ -26,8 +26,8 @@ fn advanced_number(state: State, answer: Result<Advanced, Refusal>, place: &mut 
             *place = [
                 advanced.steps,
                 state.address,
-                beam.x as usize,
-                beam.y as usize,
+                usize::from(beam.x),
+                usize::from(beam.y),
             ];
             packed::wide(u8::from(advanced.end))
         }

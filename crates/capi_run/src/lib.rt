@@ -30,6 +30,7 @@ fn ran_number(answer: Result<Ran, Refusal>, counts: &mut [usize; 2]) -> u64
 }
 
 // Loads a dump, sets the pen's switch, starts the unit at an address by its command and runs it.
+// Beside khaonuat_advance: the C interface has a name for each.
 #[unsafe(no_mangle)]
 pub extern "C" fn khaonuat_run(
     dump: &[u16],

@@ -15,15 +15,6 @@ use ground_setup::Size;
 use text_parse as parse;
 use text_parts as parts;
 
-// The first line.
-#[tactic(auto, unfolding(console_session::specs::Play::first_line))]
-fn first_line(rest: &[u8]) -> &[u8]
-    ensures { result.now ≡ first_line rest.now }
-{
-    let end = parse::index_of(b'\n', rest);
-    &rest[0..end]
-}
-
 // How many bytes the first line has with its newline.
 fn with_newline(rest: &[u8]) -> usize
     ensures { result ≡ min (index_of 10 rest.now + 1) (length rest.now) }
@@ -32,10 +23,11 @@ fn with_newline(rest: &[u8]) -> usize
 }
 
 // Answers the first line.
+#[tactic(auto, unfolding(console_session::specs::Play::first_line))]
 fn answer_first(device: &mut Device, rest: &[u8], out: &mut [u8], at: usize) -> usize
     ensures { Speaks (said_of device.old (first_line rest.now)) out.old at out.new device.new result }
 {
-    session::answer(device, first_line(rest), out, at)
+    session::answer(device, parse::before(b'\n', rest), out, at)
 }
 
 // Plays a script on a fresh unit of 4,096: the answers of its lines stand one behind the other at the front of the buffer.

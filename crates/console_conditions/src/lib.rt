@@ -8,9 +8,9 @@ ghost use Rattle.text_put.specs.Text.{put_at, end_of};
 ghost use Rattle.console_conditions.specs.Conditions.{mode_text, pen_mode_text, latched_zero, latched_one, state_line};
 
 use console_phrases as phrases;
-use console_phrases::{Marked, Named, Paired};
+use console_phrases::Paired;
 use ground_orders::{Mode, PenMode};
-use text_put::Printed;
+use text_put::{Decimal, HexByte, Printed};
 use unit_head::{Head, Sense};
 
 // The name of a mode.
@@ -39,22 +39,22 @@ fn pen_mode_name(mode: PenMode) -> &'static [u8]
     }
 }
 
-// The latched bits of sense byte 0.
+// The latched bits of sense byte 0. Not by unit_sense: Buffer Running and Character Mode are no latched bits, and are left out.
 fn latched_zero(sense: Sense) -> u8
     ensures { result ≡ latched_zero sense }
 {
-    0x80 * sense.reject as u8 + 0x08 * sense.check as u8
+    0x80 * u8::from(sense.reject) + 0x08 * u8::from(sense.check)
 }
 
 // The latched bits of sense byte 1.
 fn latched_one(sense: Sense) -> u8
     ensures { result ≡ latched_one sense }
 {
-    0x80 * sense.detect as u8 + 0x40 * sense.ended as u8
+    0x80 * u8::from(sense.detect) + 0x40 * u8::from(sense.ended)
 }
 
 // Puts the line of a head: its state, the waiting status and the latched sense bits.
-// Its own clauses: they are its promise to other crates.
+// A function with its own clauses: the line is put whole, so that a type would add a name and no promise.
 pub fn put_state(buffer: &mut [u8], at: usize, head: Head) -> usize
     ensures value { result ≡ end_of buffer.old at (state_line head) }
     ensures buffer_after { buffer.new ≡ put_at buffer.old at (state_line head) }
@@ -64,7 +64,7 @@ pub fn put_state(buffer: &mut [u8], at: usize, head: Head) -> usize
     (
         (
             phrases::either(state.running, b"running", b"stopped"),
-            Named(b" at ", state.address),
+            (b" at ", Decimal(state.address)),
             mode_name(state.mode),
         ),
         Paired(b" beam ", state.beam.x, state.beam.y),
@@ -74,9 +74,9 @@ pub fn put_state(buffer: &mut [u8], at: usize, head: Head) -> usize
             phrases::either(pen.armed, b" armed yes", b" armed no"),
         ),
         (
-            Marked(b" status ", head.status),
-            Marked(b" sense ", latched_zero(head.sense)),
-            Marked(b" ", latched_one(head.sense)),
+            (b" status ", HexByte(head.status)),
+            (b" sense ", HexByte(latched_zero(head.sense))),
+            (b" ", HexByte(latched_one(head.sense))),
             b"\n",
         ),
     )

@@ -9,13 +9,14 @@ ghost use Rattle.text_put.specs.Text.{put_at, end_of, hex_byte, hex_word};
 ghost use Rattle.ground_setup.specs.Setup.{size_of};
 ghost use Rattle.console_contents.specs.Contents.{given_text, status_line, words_line};
 
-use console_phrases::{Each, Marked, Row};
+use console_phrases::{Each, Row};
 use console_replies as replies;
 use ground_setup as setup;
 use ground_setup::Size;
 use text_put::{HexByte, HexWord, Printed};
 
 // The first bytes of a room.
+// A count beside the room: given_text is of as many bytes as are told, and 0 behind the room's end.
 #[derive(Clone, Copy)]
 struct Bytes<'a>(&'a [u8], usize);
 
@@ -50,14 +51,14 @@ impl<'a> Printed for Given<'a> {
     }
 }
 
-// These two lines keep their own clauses: they are their promise to other crates.
+// These two lines are functions with their own clauses: a line is put whole, so that a type for each would add a name and no promise.
 
 // Puts a status and the first bytes of the room, as many as were given.
 pub fn put_status(buffer: &mut [u8], at: usize, status: u8, room: &[u8], count: usize) -> usize
     ensures value { result ≡ end_of buffer.old at (status_line status room.now count) }
     ensures buffer_after { buffer.new ≡ put_at buffer.old at (status_line status room.now count) }
 {
-    (Marked(b"status ", status), Given(Bytes(room, count))).put(buffer, at)
+    (b"status ", HexByte(status), Given(Bytes(room, count))).put(buffer, at)
 }
 
 // The words from an address on, within the largest buffer.

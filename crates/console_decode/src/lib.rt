@@ -19,6 +19,7 @@ fn byte_in(text: &[u8], i: usize) -> u8
 }
 
 // The word of an index in a text.
+// Beside byte_in: a word has four digits, and both are one call.
 #[tactic(auto, using(crate::proofs::Laws::words_ended))]
 fn word_in(text: &[u8], i: usize) -> u16
     ensures { result ≡ hex_word_at text.now (4 * i) }

@@ -27,6 +27,7 @@ pub fn open_line(kept: &[u8], seen: usize) -> &[u8]
 }
 
 // Takes in a piece up to the newline that ends the line that is open, or all of it.
+// Piece and what is kept are lent apart: the program owns all memory.
 #[tactic(auto, using(crate::proofs::Laws::goes_on, crate::proofs::Laws::ends_kept, crate::proofs::Laws::ends_direct))]
 pub fn next(seen: usize, kept: &mut [u8; LINE], piece: &[u8]) -> Found
     ensures { LineFound (open_line seen kept.old) piece.now kept.new result }

@@ -1,23 +1,11 @@
-// The pieces that printed lines are made of: words with their numbers, one of two words, and texts one behind the other.
+// The pieces that printed lines are made of: a word with two numbers, one of two words, and texts one behind the other.
 #![tactic(auto)]
 
 ghost use Rattle.std.specs.Prelude.{◌≡◌, ◌<◌, cond, [], ℕ, List};
-ghost use Rattle.text_put.specs.Text.{end_of, named};
-ghost use Rattle.console_phrases.specs.Phrases.{paired, byte_named, each_of};
+ghost use Rattle.text_put.specs.Text.{end_of};
+ghost use Rattle.console_phrases.specs.Phrases.{paired, each_of};
 
-use text_put::{Decimal, HexByte, Printed};
-
-// A word and the number behind it.
-#[derive(Clone, Copy)]
-pub struct Named<'a>(pub &'a [u8], pub usize);
-
-impl<'a> Printed for Named<'a> {
-    ghost text = { λ p. named p.0.now p.1 };
-
-    fn put(self, buffer: &mut [u8], at: usize) -> usize {
-        (self.0, Decimal(self.1)).put(buffer, at)
-    }
-}
+use text_put::{Decimal, Printed};
 
 // A word and two numbers behind it.
 #[derive(Clone, Copy)]
@@ -27,19 +15,9 @@ impl<'a> Printed for Paired<'a> {
     ghost text = { λ p. paired p.0.now p.1 p.2 };
 
     fn put(self, buffer: &mut [u8], at: usize) -> usize {
-        (Named(self.0, self.1 as usize), Named(b" ", self.2 as usize)).put(buffer, at)
-    }
-}
-
-// A word and a byte behind it.
-#[derive(Clone, Copy)]
-pub struct Marked<'a>(pub &'a [u8], pub u8);
-
-impl<'a> Printed for Marked<'a> {
-    ghost text = { λ p. byte_named p.0.now p.1 };
-
-    fn put(self, buffer: &mut [u8], at: usize) -> usize {
-        (self.0, HexByte(self.1)).put(buffer, at)
+        let x = Decimal(usize::from(self.1));
+        let y = Decimal(usize::from(self.2));
+        (self.0, x, b" ", y).put(buffer, at)
     }
 }
 
@@ -59,6 +37,7 @@ pub fn put_nothing(buffer: &[u8], at: usize) -> usize
 }
 
 // Parts with a text each, counted from 0 on.
+// Not an Iterator: what a part is at each number is the promise, and each_of speaks of it.
 pub trait Row: Copy {
     type Part: Printed;
 

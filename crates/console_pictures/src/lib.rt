@@ -8,8 +8,8 @@ ghost use Rattle.text_put.specs.Text.{put_at, end_of};
 ghost use Rattle.console_pictures.specs.Pictures.{at_text, left_text, symbol_line, item_line, item_line_at, items_text};
 
 use console_phrases as phrases;
-use console_phrases::{Each, Marked, Named, Paired, Row};
-use text_put::Printed;
+use console_phrases::{Each, Paired, Row};
+use text_put::{Decimal, HexByte, Printed};
 
 // The address that ends an item's line.
 #[derive(Clone, Copy)]
@@ -19,7 +19,7 @@ impl Printed for At {
     ghost text = { λ a. at_text a.0 };
 
     fn put(self, buffer: &mut [u8], at: usize) -> usize {
-        (Named(b" at ", self.0 as usize), b"\n").put(buffer, at)
+        (b" at ", Decimal(usize::from(self.0)), b"\n").put(buffer, at)
     }
 }
 
@@ -37,6 +37,7 @@ impl Printed for Left {
 }
 
 // An item, by its eight numbers.
+// Numbers for kind and size, as item_line takes them: any may stand in a list that is lent.
 #[derive(Clone, Copy)]
 struct Item {
     kind: u16,
@@ -58,7 +59,7 @@ impl<'a> Printed for Symbol<'a> {
 
     fn put(self, buffer: &mut [u8], at: usize) -> usize {
         let item = self.1;
-        let code = Marked(b" code ", (item.code % 256) as u8);
+        let code = (b" code ", HexByte((item.code % 256) as u8));
         let size = phrases::either(item.size == 1, b" basic", b" large");
         (
             Paired(self.0, item.x, item.y),
@@ -90,6 +91,7 @@ impl Printed for Item {
 }
 
 // The first items of a list.
+// A count beside the list: items_text is of the whole list, and of as many items as it has.
 #[derive(Clone, Copy)]
 struct Items<'a>(&'a [u16], usize);
 
@@ -121,7 +123,7 @@ impl<'a> Row for Items<'a> {
 }
 
 // Puts a line for each of the first items of a list.
-// Its own clauses: they are its promise to other crates.
+// A function with its own clauses: the lines are put whole, so that a type would add a name and no promise.
 pub fn put_items(buffer: &mut [u8], at: usize, list: &[u16], count: usize) -> usize
     ensures value { result ≡ end_of buffer.old at (items_text list.now count) }
     ensures buffer_after { buffer.new ≡ put_at buffer.old at (items_text list.now count) }

@@ -8,10 +8,9 @@ ghost use Rattle.text_put.specs.Text.{put_at, end_of};
 ghost use Rattle.console_replies.specs.Replies.{ok_line, error_line, refusal_line, heard_line, ran_line};
 
 use console_phrases as phrases;
-use console_phrases::Named;
-use text_put::Printed;
+use text_put::{Decimal, Printed};
 
-// Each line keeps its own clauses: they are its promise to other crates.
+// Functions with their own clauses: a line is put whole and stands in no tuple, so that a type for each would add a name and no promise.
 
 // Puts `ok`.
 pub fn put_ok(buffer: &mut [u8], at: usize) -> usize
@@ -35,10 +34,11 @@ pub fn put_refused(buffer: &mut [u8], at: usize, refusal: u8) -> usize
     ensures value { result ≡ end_of buffer.old at (refusal_line refusal) }
     ensures buffer_after { buffer.new ≡ put_at buffer.old at (refusal_line refusal) }
 {
-    (Named(b"refused ", refusal as usize), b"\n").put(buffer, at)
+    (b"refused ", Decimal(usize::from(refusal)), b"\n").put(buffer, at)
 }
 
 // Puts whether a key was heard.
+// A flag: heard_line has the two words.
 pub fn put_heard(buffer: &mut [u8], at: usize, heard: bool) -> usize
     ensures value { result ≡ end_of buffer.old at (heard_line heard) }
     ensures buffer_after { buffer.new ≡ put_at buffer.old at (heard_line heard) }
@@ -53,9 +53,9 @@ pub fn put_ran(buffer: &mut [u8], at: usize, steps: usize, why: u8, items: usize
     ensures buffer_after { buffer.new ≡ put_at buffer.old at (ran_line steps why items) }
 {
     (
-        Named(b"ran ", steps),
-        Named(b" end ", why as usize),
-        Named(b" items ", items),
+        (b"ran ", Decimal(steps)),
+        (b" end ", Decimal(usize::from(why))),
+        (b" items ", Decimal(items)),
         b"\n",
     )
         .put(buffer, at)

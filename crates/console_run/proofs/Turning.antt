@@ -1,5 +1,6 @@
 -- A turn of a run with its list: steps that were listed at once and gone over lead where the pair does. Assumes nothing.
 use Rattle.std.specs.Prelude.{Err, None, Ok, Option, Result, Some}
+use Rattle.std.specs.Result.{result_unwrap_or}
 use Prim.Native.Nat.{ℕ, ◌+◌, ◌-◌, ◌≤◌, ◌<◌}
 use native.Mathlib.Omega.{arith}
 use mathlib.Core.Path.{◌≡◌, refl, sym, ap, subst, ◌∙◌}
@@ -33,14 +34,6 @@ use Rattle.console_run.specs.declared.Turn.{Turn}
 use Rattle.console_run.specs.Pair.{RunValues, run_end, run_ended, advanced_to, listed_to, advances_by, pair_from}
 use Rattle.console_run.specs.Turns.{turn_end, turn_gone, leads_by, leads_to, OnwardsBy, Onwards, Takes}
 use Rattle.console_run.proofs.Laws.{stop_number_lem, pair_none, pair_over}
-
--- advancing over such sights of a unit that runs is not refused
-never_refused : {A : Type 0} (words : List ℕ) (h h' : Head) (a : List ℕ) (r : Refusal) → advance_ended words h' (Err r) ≡ gone_over (unit words h) a → A
-unfolding gone_over
-never_refused words h h' a r told =
-    let v = ap (λ (x : AdvanceEnd). x.answer) told in
-    let z : ◌≡◌ {A = ℕ} 0 1 = cc in
-    absurd (omega arith)
 
 -- A TURN of steps that were gone over
 module _ (words : List ℕ) (h : Head) (runs : h.state.running ≡ true) (h' : Head) (gone : Advanced) (a rest : List ℕ) (told : advance_ended words h' (Ok gone) ≡ gone_over (unit words h) a) where
@@ -124,10 +117,6 @@ pub advance_all : (u : DisplayUnit) (sights : List ℕ) → all_sights sights �
 unfolding unit_advance
 advance_all u sights e = simp e
 
-pub advance_refused : {A : Type 0} (words : List ℕ) (h h' : Head) (sights : List ℕ) (r : Refusal) → all_sights sights ≡ true
-    → advance_ended words h' (Err r) ≡ unit_advance (unit words h) sights → A
-advance_refused words h h' sights r all told = never_refused words h h' sights r (told ∙ advance_all (unit words h) sights all)
-
 -- A TURN over the first k sights
 module _ (words sights : List ℕ) (h : Head) (runs : h.state.running ≡ true) (all : all_sights sights ≡ true) (k : ℕ) (some : 0 < k) (within : k ≤ length sights) where
   pub takes_over : (h' : Head) (gone : Advanced) → advance_ended words h' (Ok gone) ≡ gone_over (unit words h) (take k sights) → (held m : ℕ) (list : List ℕ)
@@ -166,18 +155,21 @@ module _ (words : List ℕ) (h : Head) (runs : h.state.running ≡ true) (held :
       by None e = let v = ap (λ (w : ListEnd). w.answer) e in let z : ◌≡◌ {A = ℕ} 0 1 = cc in absurd (omega arith)
       by (Some k) e = let v = ap (λ (w : ListEnd). w.answer) e in let z : ◌≡◌ {A = ℕ} 0 1 = cc in absurd (omega arith)
 
-  -- the answer of listing the first of some sights
+  -- the answer of listing the first of some sights, where a refusal counts as no room
   module _ (sights : List ℕ) (some : 0 < length sights) (all : all_sights sights ≡ true) (r : Result (Option ℕ) Refusal) (told : Tells (get_or sights 0 0) r) where
-    pub takes_none : {A : Type 0} (x : Refusal) → r ≡ Err x → A
-    takes_none x same = by sights some all (subst (Tells (get_or sights 0 0)) same told)
+    answered : (x : Option ℕ) → result_unwrap_or r None ≡ x → Tells (get_or sights 0 0) (Ok x)
+    answered x same = subst (λ (x : Option ℕ). Tells (get_or sights 0 0) (Ok x)) same (by sights some all r told)
       where
-        by : {A : Type 0} (l : List ℕ) → 0 < length l → all_sights l ≡ true → Tells (get_or l 0 0) (Err x) → A
-        by [] k e d = absurd (omega arith)
-        by (g ∷ gs) k e d = not_refused x g gs e d
+        by : (l : List ℕ) → 0 < length l → all_sights l ≡ true → (r : Result (Option ℕ) Refusal) → Tells (get_or l 0 0) r
+            → Tells (get_or l 0 0) (Ok (result_unwrap_or r None))
+        by [] k e r d = absurd (omega arith)
+        by (g ∷ gs) k e (Ok y) d = d
+        by (g ∷ gs) k e (Err y) d = not_refused y g gs e d
 
     -- no room
-    pub takes_full : (x : Option ℕ) → r ≡ Ok x → x ≡ None → Takes words sights h held list h (record { steps = 0; held = held; end = Some NoRoom }) list'
-    takes_full x same full = by sights some all (subst (Tells (get_or sights 0 0)) (same ∙ ap Ok full) told)
+    pub takes_full : (x : Option ℕ) → x ≡ result_unwrap_or r None → x ≡ None
+        → Takes words sights h held list h (record { steps = 0; held = held; end = Some NoRoom }) list'
+    takes_full x same full = by sights some all (answered None (sym same ∙ full))
       where
         by : (l : List ℕ) → 0 < length l → all_sights l ≡ true → Tells (get_or l 0 0) (Ok None) → Takes words l h held list h (record { steps = 0; held = held; end = Some NoRoom }) list'
         by [] k e d = absurd (omega arith)
@@ -188,18 +180,17 @@ module _ (words : List ℕ) (h : Head) (runs : h.state.running ≡ true) (held :
             }
 
     -- it is done
-    pub takes_one : (x : Option ℕ) → r ≡ Ok x → (m : ℕ) → x ≡ Some m → (h' : Head) (gone : Advanced) → advance_ended words h' (Ok gone) ≡ unit_advance (unit words h) (take 1 sights)
+    pub takes_one : (x : Option ℕ) → x ≡ result_unwrap_or r None → (m : ℕ) → x ≡ Some m → (h' : Head) (gone : Advanced) → advance_ended words h' (Ok gone) ≡ gone_over (unit words h) (take 1 sights)
         → Takes words sights h held list h' (turn_gone gone m) list'
-    takes_one x same m holds h' gone done = by sights some all (subst (Tells (get_or sights 0 0)) (same ∙ ap Ok holds) told) done
+    takes_one x same m holds h' gone done = by sights some all (answered (Some m) (sym same ∙ holds)) done
       where
-        by : (l : List ℕ) → 0 < length l → all_sights l ≡ true → Tells (get_or l 0 0) (Ok (Some m)) → advance_ended words h' (Ok gone) ≡ unit_advance (unit words h) (take 1 l)
+        by : (l : List ℕ) → 0 < length l → all_sights l ≡ true → Tells (get_or l 0 0) (Ok (Some m)) → advance_ended words h' (Ok gone) ≡ gone_over (unit words h) (take 1 l)
             → Takes words l h held list h' (turn_gone gone m) list'
         by [] k e d f = absurd (omega arith)
         by (g ∷ gs) k e d f =
-            let over = f ∙ advance_all (unit words h) (g ∷ []) (all_take 1 (g ∷ gs) e) in
             record {
-              leads = λ n. next (Ok (Some m)) g gs e d n ∙ turn_leads words h runs h' gone (g ∷ []) gs over n m list';
-              onwards = turn_onwards words h runs h' gone (g ∷ []) gs over m (omega arith);
+              leads = λ n. next (Ok (Some m)) g gs e d n ∙ turn_leads words h runs h' gone (g ∷ []) gs f n m list';
+              onwards = turn_onwards words h runs h' gone (g ∷ []) gs f m (omega arith);
             }
 
 -- A TURN of idle steps: they draw nothing
@@ -216,11 +207,11 @@ module _ (words sights : List ℕ) (h : Head) (runs : h.state.running ≡ true) 
 
   -- and of a stretch that was listed
   module _ (held : ℕ) (list : List ℕ) (r : AheadListed) (list' : List ℕ) (ahead : ListsAhead (buffer words h.cursor) sights h.state held list r list') where
-    pub takes_ahead : 0 < r.steps → (h' : Head) (gone : Advanced) → advance_ended words h' (Ok gone) ≡ unit_advance (unit words h) (take r.steps sights)
+    pub takes_ahead : 0 < r.steps → (h' : Head) (gone : Advanced) → advance_ended words h' (Ok gone) ≡ gone_over (unit words h) (take r.steps sights)
         → Takes words sights h held list h' (turn_gone gone r.held) list'
     takes_ahead some h' gone told =
         subst (λ (l : List ℕ). Takes words sights h held list h' (turn_gone gone r.held) l) (sym ahead.puts)
-        (takes_over words sights h runs all r.steps some ahead.gone.within h' gone (told ∙ advance_all (unit words h) (take r.steps sights) (all_take r.steps sights all)) held r.held list ahead.holds)
+        (takes_over words sights h runs all r.steps some ahead.gone.within h' gone told held r.held list ahead.holds)
 
 -- where no step of it was listed, the list is as it was
 pub nothing_ahead : (words sights : List ℕ) (h : Head) (held : ℕ) (list : List ℕ) (r : AheadListed) (list' : List ℕ)

@@ -1,6 +1,5 @@
 -- One turn of a run with its list: for the proof alone.
-use Rattle.std.specs.Prelude.{ℕ, ◌+◌, ◌≤◌, ◌<◌, ◌≡◌, true, List, length, drop, Err, None, Ok, Option, Result, Some}
-use Rattle.ground_refusals.specs.declared.Refusal.{Refusal}
+use Rattle.std.specs.Prelude.{ℕ, ◌+◌, ◌≤◌, ◌<◌, ◌≡◌, true, List, length, drop, None, Option, Some}
 use Rattle.unit_head.specs.Head.{unit}
 use Rattle.unit_head.specs.declared.Head.{Head}
 use Rattle.unit_advance.specs.declared.Advanced.{Advanced}
@@ -40,8 +39,3 @@ Onwards sights h t = OnwardsBy sights h t.steps t.end
 pub record Takes (words sights : List ℕ) (h : Head) (held : ℕ) (list : List ℕ) (h' : Head) (t : Turn) (list' : List ℕ) : Type 0 where
   pub leads : (n : ℕ) → pair_from (unit words h) sights n held list ≡ leads_to words sights n list' h' t
   pub onwards : Onwards sights h' t
-
--- and is not refused
-abbrev pub Taken : List ℕ → List ℕ → Head → ℕ → List ℕ → Head → Result Turn Refusal → List ℕ → Type 0
-Taken words sights h held list h' (Ok t) list' = Takes words sights h held list h' t list'
-Taken words sights h held list h' (Err r) list' = ⊥

@@ -8,7 +8,7 @@ ghost use Rattle.std.specs.Prelude.{◌≡◌, true, ◌<◌, length, Ok};
 ghost use Rattle.unit_head.specs.Head.{unit};
 ghost use Rattle.unit_advance.specs.Advance.{all_sights};
 ghost use Rattle.console_run.specs.Pair.{outcome_number, run_ended, pair_from, pair_run};
-ghost use Rattle.console_run.specs.Turns.{turn_gone, Taken};
+ghost use Rattle.console_run.specs.Turns.{turn_gone, Takes};
 
 use ground_refusals::Refusal;
 use unit_advance as advance;
@@ -70,78 +70,57 @@ fn turn_of(gone: Advanced, held: usize) -> Turn
     }
 }
 
-// One turn by the next step: it is listed, and done.
-fn take_step(
-    words: &[u16],
-    head: &mut Head,
-    sights: &[u8],
-    held: usize,
-    out: &mut [u16],
-) -> Result<Turn, Refusal>
+// One turn: as many steps as are idle, or those of a stretch, or one. Listing it is never refused here.
+fn take_turn(words: &[u16], head: &mut Head, sights: &[u8], held: usize, out: &mut [u16]) -> Turn
     requires { (head.old.state.running ≡ true) × (all_sights sights.now ≡ true) × (0 < length sights.now) }
-    ensures { Taken words.now sights.now head.old held out.old head.new result out.new }
+    ensures { Takes words.now sights.now head.old held out.old head.new result out.new }
 {
-    match list::list(words, head, sights[0], held, out)? {
-        None => Ok(Turn {
+    if step::is_idle(head.state.mode) {
+        return turn_of(advance::advance_idle(words, head, sights), held);
+    }
+    let listed = ahead::list_ahead(words, head.cursor, head.state, sights, held, out);
+    if 0 < listed.steps {
+        let gone = advance::advance_tried(words, head, &sights[0..listed.steps]);
+        return turn_of(gone, listed.held);
+    }
+    match list::list(words, head, sights[0], held, out).unwrap_or(None) {
+        None => Turn {
             steps: 0,
             held,
             end: Some(Outcome::NoRoom),
-        }),
+        },
         Some(n) => {
-            let gone = advance::advance(words, head, &sights[0..1])?;
-            Ok(turn_of(gone, n))
+            let gone = advance::advance_tried(words, head, &sights[0..1]);
+            turn_of(gone, n)
         }
     }
 }
 
-// One turn: as many steps as are idle, or those of a stretch, or one.
-fn take_turn(
-    words: &[u16],
-    head: &mut Head,
-    sights: &[u8],
-    held: usize,
-    out: &mut [u16],
-) -> Result<Turn, Refusal>
-    requires { (head.old.state.running ≡ true) × (all_sights sights.now ≡ true) × (0 < length sights.now) }
-    ensures { Taken words.now sights.now head.old held out.old head.new result out.new }
-{
-    if step::is_idle(head.state.mode) {
-        return Ok(turn_of(advance::advance_idle(words, head, sights), held));
-    }
-    let listed = ahead::list_ahead(words, head.cursor, head.state, sights, held, out);
-    if 0 < listed.steps {
-        let gone = advance::advance(words, head, &sights[0..listed.steps])?;
-        Ok(turn_of(gone, listed.held))
-    } else {
-        take_step(words, head, sights, held, out)
-    }
-}
-
 // A run of a unit that runs, over sights that are none above 2.
-fn run_from(words: &[u16], head: &mut Head, sights: &[u8], out: &mut [u16]) -> Result<Ran, Refusal>
+fn run_from(words: &[u16], head: &mut Head, sights: &[u8], out: &mut [u16]) -> Ran
     requires { (head.old.state.running ≡ true) × (all_sights sights.now ≡ true) }
-    ensures { run_ended words.now head.new result out.new ≡ pair_from (unit words.now head.old) sights.now 0 0 out.old }
+    ensures { run_ended words.now head.new (Ok result) out.new ≡ pair_from (unit words.now head.old) sights.now 0 0 out.old }
 {
     let mut items = 0;
     let mut i = 0;
     // A while: a turn's steps vary.
     while i < sights.len() {
-        let turn = take_turn(words, head, &sights[i..], items, out)?;
+        let turn = take_turn(words, head, &sights[i..], items, out);
         i += turn.steps;
         items = turn.held;
         if let Some(outcome) = turn.end {
-            return Ok(Ran {
+            return Ran {
                 steps: i,
                 outcome,
                 items,
-            });
+            };
         }
     }
-    Ok(Ran {
+    Ran {
         steps: i,
         outcome: Outcome::Ended(End::SightsUsed),
         items,
-    })
+    }
 }
 
 // Runs the unit, one step for each sight, and lists what is drawn, eight numbers an item. A refusal leaves all as it was.
@@ -153,7 +132,7 @@ pub fn run(words: &[u16], head: &mut Head, sights: &[u8], out: &mut [u16]) -> Re
         return Err(Refusal::UnknownSight);
     }
     if head.state.running {
-        run_from(words, head, sights, out)
+        Ok(run_from(words, head, sights, out))
     } else {
         Ok(Ran {
             steps: 0,

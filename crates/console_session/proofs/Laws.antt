@@ -1,4 +1,5 @@
 -- Answers: of an equal meaning, and of a text that a call has put.
+use Rattle.std.specs.Prelude.{Result}
 use Prim.Native.Nat.{ℕ, ◌+◌, ◌-◌, ◌≤◌, ◌<◌}
 use mathlib.Core.Path.{◌≡◌, refl, sym, ap, subst, ◌∙◌}
 use mathlib.Core.List.{List, ◌++◌}
@@ -7,6 +8,7 @@ use lib.ListN.{length, take, drop, replicate, length-replicate, length-drop, rep
 use lib.Seq.{take_at}
 use borrow.Author.Tests.{le-leb, lt-leb}
 use Rattle.text_put.proofs.Laws.{Puts}
+use Rattle.ground_refusals.specs.declared.Refusal.{Refusal}
 use Rattle.device_2250.specs.declared.Device.{Device}
 use Rattle.console_replies.specs.Replies.{error_line, ran_line}
 use Rattle.console_pictures.specs.Pictures.{items_text}
@@ -17,12 +19,17 @@ use Rattle.console_run.specs.Pair.{outcome_number, RunValues, pair_run}
 use Rattle.console_run.specs.declared.Outcome.{Outcome}
 use Rattle.console_script.specs.Script.{rest_of, request_of}
 use Rattle.console_decode.specs.Decode.{bytes_in, sights_in}
-use Rattle.console_session.specs.Session.{Said, said, load_said, command_said, run_told, run_said, bytes_sent, dump_sent, sights_sent, said_by, said_of, Speaks}
+use Rattle.console_session.specs.Session.{Said, said, load_said, command_said, run_told, run_said, bytes_sent, dump_sent, sights_sent, said_by, said_of, Speaks, Responds}
 
 pub speaks_as : {s t : Said} {buffer : List ℕ} {at : ℕ} {after : List ℕ} {left : Device} {ends : ℕ} → s ≡ t
     → Speaks s buffer at after left ends
     → Speaks t buffer at after left ends
 speaks_as {s} {t} {buffer} {at} {after} {left} {ends} e a = subst (λ (s : Said). Speaks s buffer at after left ends) e a
+
+pub answers_as : {s t : Said} (buffer : List ℕ) (at : ℕ) (after : List ℕ) (left : Device) (r : Result ℕ Refusal) → s ≡ t
+    → Responds s buffer at after left r
+    → Responds t buffer at after left r
+answers_as buffer at after left r e a = subst (λ (s : Said). Responds s buffer at after left r) e a
 
 pub spoken : (d : Device) (text buffer : List ℕ) (at end : ℕ) (after : List ℕ) → Puts buffer at text end after
     → Speaks (said d text) buffer at after d end

@@ -135,3 +135,8 @@ pub record Speaks (s : Said) (buffer : List ℕ) (at : ℕ) (after : List ℕ) (
   pub device : left ≡ s.device
   pub end : ends ≡ end_of buffer at s.text
   pub lines : after ≡ put_at buffer at s.text
+
+-- the same of a call that leaves a refusal to its caller: nothing is put of it
+abbrev pub Responds : Said → List ℕ → ℕ → List ℕ → Device → Result ℕ Refusal → Type 0
+Responds s buffer at after left (Ok end) = Speaks s buffer at after left end
+Responds s buffer at after left (Err r) = (refused_said left (refusal_number r) ≡ s) × (after ≡ buffer)

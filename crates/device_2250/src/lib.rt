@@ -53,7 +53,7 @@ impl Device {
         ensures { self.new ≡ self.old }
     {}
 
-    // Closes or opens the pen's switch.
+    // Closes or opens the pen's switch. The flag is what the switch then is.
     pub fn switch_to(&mut self, closed: bool)
         ensures { self.new ≡ switched_of self.old closed }
     {

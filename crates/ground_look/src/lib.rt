@@ -12,19 +12,19 @@ use ground_orders::{Follows, Mode, PenMode, Row};
 use ground_setup as setup;
 use ground_setup::{Setup, Size};
 
-// The faults of a step.
-#[derive(Clone, Copy, PartialEq, Eq)]
+// The faults of a step, with the numbers that 01 gives them.
+#[derive(Clone, Copy, PartialEq, Eq, PartialOrd, Ord)]
 pub enum Fault {
-    // 1: a byte to be read is unwritten.
-    Unwritten,
-    // 2: the code is in no row.
-    NoRow,
-    // 3: the target is odd.
-    OddTarget,
-    // 4: the target is the buffer's size or more.
-    FarTarget,
-    // 5: an order stands where Y was due.
-    OrderForY,
+    // A byte to be read is unwritten.
+    Unwritten = 1,
+    // The code is in no row.
+    NoRow = 2,
+    // The target is odd.
+    OddTarget = 3,
+    // The target is the buffer's size or more.
+    FarTarget = 4,
+    // An order stands where Y was due.
+    OrderForY = 5,
 }
 
 // What a step finds, with the bytes read and the next address.
@@ -71,13 +71,7 @@ impl From<Fault> for u8 {
     ghost from_gives = { λ fault n. (n ≡ fault_number fault) × (n < 6) };
 
     fn from(fault: Fault) -> u8 {
-        match fault {
-            Fault::Unwritten => 1,
-            Fault::NoRow => 2,
-            Fault::OddTarget => 3,
-            Fault::FarTarget => 4,
-            Fault::OrderForY => 5,
-        }
+        fault as u8
     }
 }
 
@@ -143,6 +137,7 @@ fn first_by(setup: Setup, at: usize, mode: Mode, group: Group) -> Begun
 }
 
 // A transfer to a target, which is checked whether or not it may be left out.
+// A flag: both transfers are one but for that, as in target_by.
 fn target_by(size: Size, may: bool, next: usize, target: usize) -> Look
     ensures { result ≡ target_by size may next target }
 {

@@ -48,6 +48,7 @@ impl TryFrom<usize> for Size {
 }
 
 // The address where the buffer goes round.
+// Size and address are two values, and an address is held by none: what is promised of both is each function's own sentence.
 pub fn wrap(size: Size, address: usize) -> usize
     ensures { (result ≡ wrap_of size address) × Inside size result }
 {

@@ -59,7 +59,7 @@ pub fn read_cut(kind: usize) -> Refusal
     }
 }
 
-// What a whole payload of this kind is. Its start is enough: what stands behind size and start is not looked at.
+// What a whole payload of this kind is, which is any number, as in kind_row. Its start is enough: what stands behind size and start is not looked at.
 pub fn read_payload(kind: usize, payload: &[u8]) -> Result<Image, Refusal>
     ensures { result ≡ payload_of kind payload.now }
 {

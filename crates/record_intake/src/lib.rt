@@ -74,8 +74,8 @@ fn needed(length: usize, kind: usize) -> usize
 }
 
 // Takes in a piece of a record of which `had` bytes came before.
-fn gather(had: usize, kept: &mut [u8], piece: &[u8]) -> Found
-    requires { (32779 ≤ length kept.old) × (had < extent_of kept.old) × (had < 4294967302) }
+fn gather(had: usize, kept: &mut [u8; KEPT], piece: &[u8]) -> Found
+    requires { (had < extent_of kept.old) × (had < 4294967302) }
     ensures by_index { (s : List ℕ) → OpenRecord had kept.old s → FoundIn s piece.now kept.new result }
     ensures used_in { UsedIn piece.now kept.new result }
 {
@@ -96,6 +96,7 @@ fn gather(had: usize, kept: &mut [u8], piece: &[u8]) -> Found
 }
 
 // Takes in a piece until a record is whole. `seen` bytes of the record that is open have come, the first of them are kept.
+// Piece and what is kept are lent apart: the program owns all memory.
 pub fn next(seen: usize, kept: &mut [u8; KEPT], piece: &[u8]) -> Found
     ensures by_index { (s : List ℕ) → OpenRecord (open_at seen kept.old) kept.old s → FoundIn s piece.now kept.new result }
     ensures used_in { UsedIn piece.now kept.new result }

@@ -8,7 +8,7 @@ ghost use Rattle.record_lines.specs.Lines.{passed_line, fault_line, refused_line
 
 use text_put::{Decimal, Printed};
 
-// Each line keeps its own clauses: they are its promise to other crates.
+// A line is put whole and never stands in a tuple: a type of its own for each would add a name and no promise.
 
 // Puts the line of a record that passed: its number and the places reached.
 pub fn put_passed(buffer: &mut [u8], at: usize, number: usize, places: usize) -> usize

@@ -54,9 +54,9 @@ impl ListingAt {
         piece: &[u8],
         out: &mut [u8],
         at: usize,
-        store: &mut [u8],
+        store: &mut [u8; 32768],
     ) -> Fed
-        requires { (self.old.number < 18446744073709551615) × (at + 128 ≤ length out.old) × (length store.old ≡ 32768) × (0 < length piece.now) }
+        requires { (self.old.number < 18446744073709551615) × (at + 128 ≤ length out.old) × (0 < length piece.now) }
         ensures feeds { Feeds self.old kept.old piece.now out.old at result self.new kept.new out.new }
         ensures store_left { StoreLeft store.old store.new × (0 < result.used) }
     {

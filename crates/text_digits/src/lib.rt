@@ -25,7 +25,7 @@ pub fn all_below(base: u8, text: &[u8]) -> bool
     text.iter().all(|byte| hex_value(*byte) < base)
 }
 
-// The value of the digit at a place, 16 where there is none.
+// The value of the digit at a place, 16 where there is none: no Option, as for `hex_value`.
 #[tactic(auto, unfolding(crate::specs::Digits::digit_at))]
 pub fn digit_at(text: &[u8], at: usize) -> u8
     ensures { (result ≡ digit_at text.now at) × (result ≤ 16) }
@@ -38,8 +38,8 @@ pub fn digit_at(text: &[u8], at: usize) -> u8
 pub fn byte_at(text: &[u8], at: usize) -> u8
     ensures { result ≡ hex_byte_at text.now at }
 {
-    let high = digit_at(text, at) as usize;
-    let low = digit_at(text, at.saturating_add(1)) as usize;
+    let high = usize::from(digit_at(text, at));
+    let low = usize::from(digit_at(text, at.saturating_add(1)));
     ((16 * high + low) % 256) as u8
 }
 
@@ -48,7 +48,7 @@ pub fn byte_at(text: &[u8], at: usize) -> u8
 pub fn word_at(text: &[u8], at: usize) -> u16
     ensures { result ≡ hex_word_at text.now at }
 {
-    let high = byte_at(text, at) as u16;
-    let low = byte_at(text, at.saturating_add(2)) as u16;
-    256 * high + low
+    let high = byte_at(text, at);
+    let low = byte_at(text, at.saturating_add(2));
+    u16::from_be_bytes([high, low])
 }

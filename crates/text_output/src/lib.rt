@@ -6,9 +6,7 @@
 ghost use Rattle.std.specs.Prelude.{◌≡◌, length, true};
 ghost use Rattle.text_output.specs.Output.{Handed};
 
-use text_parts as parts;
-
-// The numbers of standard output and of standard error.
+// The numbers of standard output and of standard error. No Stdout of std: each call would take one more parameter and promise no more.
 const STDOUT_FILENO: i32 = 1;
 
 const STDERR_FILENO: i32 = 2;
@@ -31,14 +29,13 @@ impl Output {
         }
     }
 
-    // Writes the first n bytes of the buffer. Once a write has failed nothing more is written.
-    pub fn write(&mut self, buffer: &[u8], n: usize)
-        ensures { Handed self.old (length buffer.now) n self.new }
+    // Writes a text. Once a write has failed nothing more is written.
+    pub fn write(&mut self, text: &[u8])
+        ensures { Handed self.old (length text.now) (length text.now) self.new }
     {
         if !self.open {
             return;
         }
-        let text = parts::first(buffer, n);
         let Some(written) = self.written.checked_add(text.len()) else {
             self.open = false;
             return;

@@ -1,7 +1,7 @@
-// Numbers read from text, and where a byte stands in one.
+// Numbers read from text, where a byte stands in one, and what stands before it.
 #![tactic(auto)]
 
-ghost use Rattle.std.specs.Prelude.{◌≡◌, ◌≤◌, length};
+ghost use Rattle.std.specs.Prelude.{◌≡◌, ◌≤◌, length, take};
 ghost use Rattle.text_parse.specs.Index.{index_of};
 ghost use Rattle.text_parse.specs.Parse.{number_from, parsed_of};
 
@@ -16,7 +16,7 @@ fn number_in(text: &[u8]) -> Option<usize>
         if !byte.is_ascii_digit() {
             return None;
         }
-        n = n * 10 + (*byte - 48) as usize;
+        n = n * 10 + usize::from(*byte - b'0');
     }
     Some(n)
 }
@@ -31,7 +31,7 @@ pub fn number_of(text: &[u8]) -> Option<usize>
     }
 }
 
-// How many bytes of a text stand before the first that is this byte.
+// How many bytes of a text stand before the first that is this byte; all of them where none is, so that no Option is wanted.
 #[tactic(auto, using(crate::proofs::Index::index_here, crate::proofs::Index::index_further, crate::proofs::Index::index_end))]
 pub fn index_of(byte: u8, text: &[u8]) -> usize
     ensures { (result ≡ index_of byte text.now) × (result ≤ length text.now) }
@@ -43,4 +43,11 @@ pub fn index_of(byte: u8, text: &[u8]) -> usize
         }
     }
     text.len()
+}
+
+// What stands in a text before the first that is this byte; all of it where none is.
+pub fn before(byte: u8, text: &[u8]) -> &[u8]
+    ensures { result.now ≡ take (index_of byte text.now) text.now }
+{
+    &text[..index_of(byte, text)]
 }

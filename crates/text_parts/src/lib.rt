@@ -4,6 +4,7 @@
 ghost use Rattle.std.specs.Prelude.{◌≡◌, take, drop};
 
 // The first bytes, or all where there are fewer.
+// A count beside the bytes: this is the cut itself.
 pub fn first(bytes: &[u8], count: usize) -> &[u8]
     ensures { result.now ≡ take count bytes.now }
 {

@@ -6,7 +6,8 @@ ghost use Rattle.std.specs.Prelude.{◌≡◌, min, ◌<◌, List, ℕ, ◌++◌
 ghost use Rattle.text_put.specs.Text.{put_at, end_of, decimal_of, hex_digit, hex_byte, hex_word};
 
 // What has a text that can be put.
-// Buffer and place are two parameters: the promise, put_at and end_of, is of both.
+// Not std's Display, whose law is of a text that was written whole: put_at and end_of say what a buffer too short for it holds.
+// Buffer and place are two parameters: the promise is of both.
 pub trait Printed: Copy {
     ghost text: { Self → List ℕ };
 
@@ -94,7 +95,8 @@ impl Printed for HexWord {
     ghost text = { λ word. hex_word word.0 };
 
     fn put(self, buffer: &mut [u8], at: usize) -> usize {
-        (HexByte((self.0 / 256) as u8), HexByte((self.0 % 256) as u8)).put(buffer, at)
+        let [high, low] = self.0.to_be_bytes();
+        (HexByte(high), HexByte(low)).put(buffer, at)
     }
 }
 

@@ -1,11 +1,10 @@
 -- A program whose input has ended, and one that goes on.
 use Prim.Native.Nat.{ℕ, ◌+◌, ◌≤◌, ◌<◌}
-use mathlib.Core.Path.{◌≡◌, refl, sym, subst}
+use mathlib.Core.Path.{◌≡◌, refl, sym, ap, subst}
 use mathlib.Core.Bool.{Bool, true, false, cond}
 use mathlib.Core.List.{List, [], ◌∷◌, ◌++◌}
 use native.Mathlib.Omega.{arith}
 use lib.ListN.{length, take, drop, length-append}
-use lib.Seq.{length-take-le}
 use Rattle.text_output.specs.Output.{Handed}
 use Rattle.text_output.specs.declared.Output.{Output}
 use Rattle.text_stream.specs.Ends.{EndedBy, StreamEnds, closed_of}
@@ -54,9 +53,11 @@ module _ (A : Type 0) (Stands : A → List ℕ → List ℕ → List ℕ → Typ
 
   -- a call takes in some of it
   module _ (l l' : A) (rest out : List ℕ) (fed : Fed) (takes : Takes Stands l rest fed l' out) where
-    pub goes_on : (output next : Output) (count : ℕ) → Handed output (length out) fed.end next → Between Stands l rest output count
+    pub goes_on : (output next : Output) (count : ℕ) (text : List ℕ) → text ≡ take fed.end out
+        → Handed output (length text) (length text) next
+        → Between Stands l rest output count
         → Between Stands l' (drop fed.used rest) next count
-    goes_on output next count wrote b =
+    goes_on output next count text is wrote b =
         record {
           input = b.input;
           text = b.text ++ take fed.end out;
@@ -69,7 +70,7 @@ module _ (A : Type 0) (Stands : A → List ℕ → List ℕ → List ℕ → Typ
                 wrote.count h,
                 b.written (wrote.was h),
                 length-append b.text (take fed.end out),
-                length-take-le fed.end out takes.ends,
+                ap length is,
               );
         }
 
@@ -96,14 +97,15 @@ module _ (A : Type 0) (Stands : A → List ℕ → List ℕ → List ℕ → Typ
       }
 
   -- the input has ended
-  pub closes : (Whole : List ℕ → List ℕ → Type 0) (l : A) (output : Output) (count end : ℕ) (out : List ℕ) (r : Streamed)
+  pub closes : (Whole : List ℕ → List ℕ → Type 0) (l : A) (output : Output) (count end : ℕ) (out text : List ℕ) (r : Streamed)
       → Closes Stands Whole l end out
-      → Handed output (length out) end r.output
+      → text ≡ take end out
+      → Handed output (length text) (length text) r.output
       → r.came ≡ count
       → Between Stands l [] output count
       → r.output.open ≡ true
       → AllGiven Whole r
-  closes Whole l output count end out r last wrote came b still =
+  closes Whole l output count end out text r last is wrote came b still =
       record {
         input = b.input;
         text = b.text ++ take end out;
@@ -115,6 +117,6 @@ module _ (A : Type 0) (Stands : A → List ℕ → List ℕ → List ℕ → Typ
               wrote.count still,
               b.written (wrote.was still),
               length-append b.text (take end out),
-              length-take-le end out last.ends,
+              ap length is,
             );
       }

@@ -97,7 +97,7 @@ pub fn stream<const N: usize, L: Listener<N> + Drop>(stdin: Stdin, failed: &[u8]
             Came::Bytes(n) => n,
             Came::End => {
                 let end = listener.close(&mut out);
-                output.write(&out, end);
+                output.write(parts::first(&out, end));
                 return closed(count, output);
             }
             Came::Failed => {
@@ -114,7 +114,7 @@ pub fn stream<const N: usize, L: Listener<N> + Drop>(stdin: Stdin, failed: &[u8]
         // A while: a call uses as much as finds room.
         'feeds: while rest.len() > 0 {
             let fed = listener.feed(rest, &mut out);
-            output.write(&out, fed.end);
+            output.write(parts::first(&out, fed.end));
             rest = parts::behind(rest, fed.used);
         }
         if !output.open {

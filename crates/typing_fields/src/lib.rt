@@ -8,9 +8,9 @@ ghost use Rattle.typing_fields.specs.Fields.{protected_by, mode_field, follows_f
 
 use ground_orders as orders;
 use ground_orders::{Follows, Mode};
-use ground_setup::Size;
 use typing_seek as seek;
 use typing_signs as signs;
+use typing_signs::Locations;
 
 // A field of characters: their mode, and whether they are protected.
 #[derive(Clone, Copy)]
@@ -57,12 +57,12 @@ pub fn code_field(code: u8) -> Option<Field>
 
 // The field of a location, which is in none where its own pair is an order.
 #[tactic(auto, unfolding(crate::specs::Fields::field_of))]
-pub fn field_of(words: &[u16], size: Size, at: usize) -> Option<Field>
-    ensures { result ≡ field_of words.now size at }
+pub fn field_of(locations: Locations, at: usize) -> Option<Field>
+    ensures { result ≡ field_of locations.entry.words.now locations.entry.size at }
 {
-    if signs::order_at(words, size, signs::even(size, at)) {
+    if locations.order_at(signs::even(locations.size, at)) {
         return None;
     }
-    let order = seek::order_behind(words, size, at)?;
-    code_field(signs::code_at(words, size, order))
+    let order = seek::order_behind(locations, at)?;
+    code_field(locations.code_at(order))
 }

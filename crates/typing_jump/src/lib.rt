@@ -18,6 +18,7 @@ use std::ops::ControlFlow::{Break, Continue};
 use typing_fields as fields;
 use typing_fields::Field;
 use typing_signs as signs;
+use typing_signs::Locations;
 use unit_head::State;
 use unit_step as step;
 use unit_step::Stepped;
@@ -30,11 +31,10 @@ fn is_open(field: Option<Field>) -> bool
 }
 
 // Whether the cursor lands behind the order at a place.
-fn lands(words: &[u16], size: Size, at: usize, next: usize) -> bool
-    ensures { result ≡ (open_in (code_field (code_at words.now size at)) && not (order_at words.now size next)) }
+fn lands(locations: Locations, at: usize, next: usize) -> bool
+    ensures { result ≡ (open_in (code_field (code_at locations.entry.words.now locations.entry.size at)) && not (order_at locations.entry.words.now locations.entry.size next)) }
 {
-    is_open(fields::code_field(signs::code_at(words, size, at)))
-        && !signs::order_at(words, size, next)
+    is_open(fields::code_field(locations.code_at(at))) && !locations.order_at(next)
 }
 
 // Where a look's order takes the cursor.
@@ -42,8 +42,9 @@ fn landing(words: &[u16], state: State, look: Look) -> Option<usize>
     ensures { result ≡ landing_by words.now state look }
 {
     let size = state.setup.size;
+    let locations = Locations { words, size };
     match look {
-        Look::Enter(_, next) if lands(words, size, state.address, next) => Some(setup::wrap(
+        Look::Enter(_, next) if lands(locations, state.address, next) => Some(setup::wrap(
             size, next,
         )),
         _ => None,
@@ -67,6 +68,7 @@ fn hop_of(words: &[u16], state: State) -> ControlFlow<Option<usize>, State>
 }
 
 // A search of at most n steps.
+// A loop: tried as `try_fold`; the lemma from its list of turns to the definition is longer than the loop's proof.
 #[tactic(auto, using(crate::proofs::Turns::jump_none))]
 fn jump_from(words: &[u16], n: usize, start: State) -> Option<usize>
     ensures { result ≡ jump_from words.now n start }

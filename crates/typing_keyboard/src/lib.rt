@@ -12,7 +12,7 @@ use typing_fields::Field;
 use typing_jump as jump;
 use typing_moves as moves;
 use typing_moves::Direction;
-use typing_signs as signs;
+use typing_signs::Locations;
 use unit_head::State;
 
 // A key.
@@ -94,8 +94,9 @@ fn character(words: &[u16], state: State, at: usize, code: u8) -> Act
     ensures { result ≡ character_of words.now state at code }
 {
     let size = state.setup.size;
-    let spot = moves::go(words, size, Direction::Forward, at);
-    if signs::line_at(words, size, at) {
+    let locations = Locations { words, size };
+    let spot = moves::go(locations, Direction::Forward, at);
+    if locations.line_at(at) {
         move_by(spot)
     } else {
         Act::Store(code, spot.unwrap_or(at))
@@ -107,11 +108,12 @@ fn press_in(words: &[u16], state: State, at: usize, field: Field, press: Press) 
     ensures { result ≡ press_in words.now state at field press }
 {
     let size = state.setup.size;
+    let locations = Locations { words, size };
     match press {
         Press::Character(_) if field.shut => Act::Stay,
         Press::Character(code) => character(words, state, at, code),
-        Press::Advance => move_by(moves::go(words, size, Direction::Forward, at)),
-        Press::Backspace => move_by(moves::go(words, size, Direction::Backward, at)),
+        Press::Advance => move_by(moves::go(locations, Direction::Forward, at)),
+        Press::Backspace => move_by(moves::go(locations, Direction::Backward, at)),
         Press::Jump => move_by(jump::jump_to(words, state, at, field.mode)),
     }
 }
@@ -121,7 +123,9 @@ fn press_in(words: &[u16], state: State, at: usize, field: Field, press: Press) 
 pub fn act_of(words: &[u16], state: State, at: usize, press: Press) -> Act
     ensures { result ≡ act_of words.now state at press }
 {
-    match fields::field_of(words, state.setup.size, at) {
+    let size = state.setup.size;
+    let locations = Locations { words, size };
+    match fields::field_of(locations, at) {
         None => Act::Stay,
         Some(field) => press_in(words, state, at, field, press),
     }

@@ -7,8 +7,8 @@ ghost use Rattle.std.specs.Prelude.{◌≡◌};
 ghost use Rattle.typing_moves.specs.Moves.{free_of, move_of, onward_of, rest_from, goes_to};
 
 use ground_setup as setup;
-use ground_setup::Size;
 use typing_signs as signs;
+use typing_signs::Locations;
 
 // Which way the cursor goes.
 #[derive(Clone, Copy)]
@@ -20,10 +20,10 @@ pub enum Direction {
 }
 
 // A location, unless an order stands at an address.
-fn free(words: &[u16], size: Size, order: usize, to: usize) -> Option<usize>
-    ensures { result ≡ free_of words.now size order to }
+fn free(locations: Locations, order: usize, to: usize) -> Option<usize>
+    ensures { result ≡ free_of locations.entry.words.now locations.entry.size order to }
 {
-    if signs::order_at(words, size, order) {
+    if locations.order_at(order) {
         None
     } else {
         Some(to)
@@ -32,42 +32,42 @@ fn free(words: &[u16], size: Size, order: usize, to: usize) -> Option<usize>
 
 // One move: nowhere where the cursor stays.
 // The direction is the key's, and rest goes on by it.
-fn one_move(words: &[u16], size: Size, direction: Direction, at: usize) -> Option<usize>
-    ensures { result ≡ move_of words.now size direction at }
+fn one_move(locations: Locations, direction: Direction, at: usize) -> Option<usize>
+    ensures { result ≡ move_of locations.entry.words.now locations.entry.size direction at }
 {
     match direction {
         Direction::Forward => {
-            let next = setup::ahead(size, at, 1);
-            free(words, size, next, next)
+            let next = setup::ahead(locations.size, at, 1);
+            free(locations, next, next)
         }
         Direction::Backward => free(
-            words,
-            size,
-            signs::back(size, at, 2),
-            signs::back(size, at, 1),
+            locations,
+            signs::back(locations.size, at, 2),
+            signs::back(locations.size, at, 1),
         ),
     }
 }
 
 // Where a cursor that has come to a location goes on to.
-fn onward(words: &[u16], size: Size, direction: Direction, at: usize) -> Option<usize>
-    ensures { result ≡ onward_of words.now size direction at }
+fn onward(locations: Locations, direction: Direction, at: usize) -> Option<usize>
+    ensures { result ≡ onward_of locations.entry.words.now locations.entry.size direction at }
 {
-    if signs::line_at(words, size, at) {
-        one_move(words, size, direction, at)
+    if locations.line_at(at) {
+        one_move(locations, direction, at)
     } else {
         None
     }
 }
 
 // Where a cursor that has come to a location rests, in at most n moves.
+// A loop: `try_fold` was tried for that of typing_jump; the lemma from its list of turns is longer than the loop's proof.
 #[tactic(auto, using(crate::proofs::Turns::rest_none))]
-fn rest(words: &[u16], size: Size, direction: Direction, n: usize, at: usize) -> Option<usize>
-    ensures { result ≡ rest_from words.now size direction n at }
+fn rest(locations: Locations, direction: Direction, n: usize, at: usize) -> Option<usize>
+    ensures { result ≡ rest_from locations.entry.words.now locations.entry.size direction n at }
 {
     let mut a = at;
     for _ in 0..n {
-        match onward(words, size, direction, a) {
+        match onward(locations, direction, a) {
             None => return Some(a),
             Some(b) => a = b,
         }
@@ -77,9 +77,9 @@ fn rest(words: &[u16], size: Size, direction: Direction, n: usize, at: usize) ->
 
 // Where the cursor goes by advance or backspace: nowhere where it stays.
 #[tactic(auto, unfolding(crate::specs::Moves::goes_to))]
-pub fn go(words: &[u16], size: Size, direction: Direction, at: usize) -> Option<usize>
-    ensures { result ≡ goes_to words.now size direction at }
+pub fn go(locations: Locations, direction: Direction, at: usize) -> Option<usize>
+    ensures { result ≡ goes_to locations.entry.words.now locations.entry.size direction at }
 {
-    let a = one_move(words, size, direction, at)?;
-    rest(words, size, direction, setup::size_of(size), a)
+    let a = one_move(locations, direction, at)?;
+    rest(locations, direction, setup::size_of(locations.size), a)
 }

@@ -1,15 +1,14 @@
 -- One turn of a search, by the definitions.
 use Rattle.std.specs.Prelude.{None, Some}
-use Prim.Native.Nat.{ℕ, zero, suc, ◌+◌, ◌-◌, ◌<◌, ◌≤◌}
+use Prim.Native.Nat.{ℕ, zero, suc, ◌-◌, ◌<◌, ◌≤◌}
 use native.Mathlib.Omega.{arith}
 use mathlib.Core.Path.{◌≡◌, refl}
 use mathlib.Core.Bool.{cond}
 use mathlib.Core.List.{List}
 use Rattle.ground_setup.specs.Setup.{wrap_of}
 use Rattle.ground_setup.specs.declared.Size.{Size}
-use Rattle.unit_cursor.specs.Cursor.{Buffer, cursor_here}
 use Rattle.typing_signs.specs.Signs.{back_of, order_at}
-use Rattle.typing_seek.specs.Seek.{cursor_from, order_from}
+use Rattle.typing_seek.specs.Seek.{order_from}
 
 module _ (words : List ℕ) (s : Size) where
   -- an order is looked for at A, and then from two before it on
@@ -24,17 +23,3 @@ module _ (words : List ℕ) (s : Size) where
   unfolding order_from
   order_none zero a h = refl
   order_none (suc n) a h = absurd (omega arith)
-
-module _ (b : Buffer) where
-  -- the cursor is looked for at A, and then from A+1 on
-  pub cursor_one : (n a : ℕ) → 0 < n → cursor_from b n a ≡ cond (cursor_here b a) (Some a) (cursor_from b (n - 1) (a + 1))
-  unfolding cursor_from
-  cursor_one zero a h = absurd (omega arith)
-  cursor_one (suc n) a h =
-      let z : suc n - 1 ≡ n = omega arith in
-      rw z
-
-  pub cursor_none : (n a : ℕ) → n ≤ 0 → cursor_from b n a ≡ None
-  unfolding cursor_from
-  cursor_none zero a h = refl
-  cursor_none (suc n) a h = absurd (omega arith)

@@ -10,42 +10,37 @@ ghost use Rattle.typing_seek.specs.Seek.{cursor_in, order_from, order_behind};
 use ground_setup as setup;
 use ground_setup::Size;
 use typing_signs as signs;
+use typing_signs::Locations;
 use unit_cursor::Cursor;
 
 // The cursor: the lowest location that it is at.
-#[tactic(auto, using(crate::proofs::Turns::cursor_one, crate::proofs::Turns::cursor_none), unfolding(crate::specs::Seek::cursor_in))]
 pub fn cursor_in(words: &[u16], cursor: Cursor, size: Size) -> Option<usize>
     ensures { result ≡ cursor_in (buffer words.now cursor) size }
 {
-    let n = setup::size_of(size);
-    for a in 0..n {
-        if cursor.is_here(words, a) {
-            return Some(a);
-        }
-    }
-    None
+    (0..setup::size_of(size)).find(|a| cursor.is_here(words, *a))
 }
 
 // The first order among n addresses, from one on back by two.
+// A loop: `try_fold` was tried for that of typing_jump; the lemma from its list of turns is longer than the loop's proof.
 #[tactic(auto, using(crate::proofs::Turns::order_one, crate::proofs::Turns::order_none))]
-fn order_from(words: &[u16], size: Size, n: usize, at: usize) -> Option<usize>
-    ensures { result ≡ order_from words.now size n at }
+fn order_from(locations: Locations, n: usize, at: usize) -> Option<usize>
+    ensures { result ≡ order_from locations.entry.words.now locations.entry.size n at }
 {
     let mut a = at;
     for _ in 0..n {
-        if signs::order_at(words, size, a) {
-            return Some(setup::wrap(size, a));
+        if locations.order_at(a) {
+            return Some(setup::wrap(locations.size, a));
         }
-        a = signs::back(size, a, 2);
+        a = signs::back(locations.size, a, 2);
     }
     None
 }
 
 // The order that a location stands behind.
 #[tactic(auto, unfolding(crate::specs::Seek::order_behind))]
-pub fn order_behind(words: &[u16], size: Size, at: usize) -> Option<usize>
-    ensures { result ≡ order_behind words.now size at }
+pub fn order_behind(locations: Locations, at: usize) -> Option<usize>
+    ensures { result ≡ order_behind locations.entry.words.now locations.entry.size at }
 {
-    let from = signs::back(size, signs::even(size, at), 2);
-    order_from(words, size, setup::size_of(size), from)
+    let from = signs::back(locations.size, signs::even(locations.size, at), 2);
+    order_from(locations, setup::size_of(locations.size), from)
 }

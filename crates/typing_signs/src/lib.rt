@@ -11,27 +11,11 @@ use ground_setup as setup;
 use ground_setup::Size;
 use ground_words as words;
 
-// The word at an address.
-fn word_at(words: &[u16], size: Size, at: usize) -> u16
-    ensures { result ≡ word_at words.now size at }
-{
-    words::word_at(words, setup::wrap(size, at))
-}
-
-// The data at an address.
-#[tactic(auto, unfolding(crate::specs::Signs::byte_at))]
-fn byte_at(words: &[u16], size: Size, at: usize) -> u8
-    ensures { result ≡ byte_at words.now size at }
-{
-    location::data_of(word_at(words, size, at))
-}
-
-// The code of an order at an address.
-#[tactic(auto, unfolding(crate::specs::Signs::code_at))]
-pub fn code_at(words: &[u16], size: Size, at: usize) -> u8
-    ensures { result ≡ code_at words.now size at }
-{
-    byte_at(words, size, setup::ahead(size, at, 1))
+// The locations that the keys look at: the words of a buffer, and its size.
+#[derive(Clone, Copy)]
+pub struct Locations<'a> {
+    pub words: &'a [u16],
+    pub size: Size,
 }
 
 // The address k before another, round the buffer.
@@ -51,18 +35,43 @@ pub fn even(size: Size, at: usize) -> usize
     here - here % 2
 }
 
-// Whether an order begins at an address.
-#[tactic(auto, unfolding(crate::specs::Signs::order_at))]
-pub fn order_at(words: &[u16], size: Size, at: usize) -> bool
-    ensures { result ≡ order_at words.now size at }
-{
-    setup::wrap(size, at) % 2 == 0 && byte_at(words, size, at) == 0x2A
-}
+impl<'a> Locations<'a> {
+    // The word at an address.
+    fn word_at(self, at: usize) -> u16
+        ensures { result ≡ word_at self.entry.words.now self.entry.size at }
+    {
+        words::word_at(self.words, setup::wrap(self.size, at))
+    }
 
-// Whether an address holds a new line.
-#[tactic(auto, unfolding(crate::specs::Signs::line_at))]
-pub fn line_at(words: &[u16], size: Size, at: usize) -> bool
-    ensures { result ≡ line_at words.now size at }
-{
-    byte_at(words, size, at) == 0x15
+    // The data at an address.
+    #[tactic(auto, unfolding(crate::specs::Signs::byte_at))]
+    fn byte_at(self, at: usize) -> u8
+        ensures { result ≡ byte_at self.entry.words.now self.entry.size at }
+    {
+        location::data_of(self.word_at(at))
+    }
+
+    // The code of an order at an address.
+    #[tactic(auto, unfolding(crate::specs::Signs::code_at))]
+    pub fn code_at(self, at: usize) -> u8
+        ensures { result ≡ code_at self.entry.words.now self.entry.size at }
+    {
+        self.byte_at(setup::ahead(self.size, at, 1))
+    }
+
+    // Whether an order begins at an address.
+    #[tactic(auto, unfolding(crate::specs::Signs::order_at))]
+    pub fn order_at(self, at: usize) -> bool
+        ensures { result ≡ order_at self.entry.words.now self.entry.size at }
+    {
+        setup::wrap(self.size, at) % 2 == 0 && self.byte_at(at) == 0x2A
+    }
+
+    // Whether an address holds a new line.
+    #[tactic(auto, unfolding(crate::specs::Signs::line_at))]
+    pub fn line_at(self, at: usize) -> bool
+        ensures { result ≡ line_at self.entry.words.now self.entry.size at }
+    {
+        self.byte_at(at) == 0x15
+    }
 }

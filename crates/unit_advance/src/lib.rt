@@ -43,7 +43,7 @@ pub struct Advanced {
 }
 
 // The number that 01 gives an end by a stop; that of a fault is the fault's own.
-// A function and no From: Stop is unit_step's.
+// A function and no From: the numbers of ends are this crate's, and Stop is unit_step's.
 #[tactic(auto, using(crate::proofs::Faults::fault_ends))]
 fn stop_number(stop: Stop) -> u8
     ensures { (result ≡ stop_number stop) × (result < 9) }
@@ -196,6 +196,13 @@ fn go_over(words: &[u16], head: &mut Head, sights: &[u8], idle: bool) -> Advance
     }
 }
 
+// Advances the unit, one step for each sight, by sights that the caller has tried with `all_sights`: none is refused.
+pub fn advance_tried(words: &[u16], head: &mut Head, sights: &[u8]) -> Advanced
+    ensures { advance_ended words.now head.new (Ok result) ≡ gone_over (unit words.now head.old) sights.now }
+{
+    go_over(words, head, sights, false)
+}
+
 // Advances the unit, one step for each sight, or refuses the sights and leaves it as it was.
 #[tactic(auto, unfolding(crate::specs::Advance::unit_advance))]
 pub fn advance(words: &[u16], head: &mut Head, sights: &[u8]) -> Result<Advanced, Refusal>
@@ -204,7 +211,7 @@ pub fn advance(words: &[u16], head: &mut Head, sights: &[u8]) -> Result<Advanced
     if !all_sights(sights) {
         return Err(Refusal::UnknownSight);
     }
-    Ok(go_over(words, head, sights, false))
+    Ok(advance_tried(words, head, sights))
 }
 
 // Advances the unit as long as its mode is idle, in which no step draws and no sight is looked at.

@@ -11,7 +11,6 @@ ghost use Rattle.unit_drawing.specs.Drawing.{code_strokes, codes_strokes, upto};
 ghost use Rattle.unit_items.specs.Items.{listing, listed};
 ghost use Rattle.unit_ahead.specs.Ahead.{Traces, Writes, led_to, blanked_of, trace_item, ListsAhead};
 
-use ground_location as location;
 use ground_look as look;
 use ground_orders::Mode;
 use unit_beam as beam;
@@ -80,6 +79,7 @@ fn list_trace(
 }
 
 // Lists coordinates or increments ahead, whose items no cursor is among.
+// A flag: no plainer without, list_ahead's match tells it, and here the other modes would need an answer too.
 #[tactic(auto, using(ground_setup::proofs::Laws::sane, crate::proofs::Laws::on_none, crate::proofs::Laws::on_done, crate::proofs::Laws::on_long, crate::proofs::Laws::on_full, crate::proofs::Laws::on_trace))]
 fn list_traces(
     words: &[u16],
@@ -95,34 +95,20 @@ fn list_traces(
     let mode = start.mode;
     let placing = look::is_placing(mode);
     let span = plain::span(placing);
-    let end = plain::clear_below(words, start.setup.size);
     let mut state = start;
     let mut n = held;
     for (i, sight) in sights.iter().enumerate() {
         let at = state.address;
-        if end <= at || pen::seen_of(start.pen, *sight) != 0 {
+        if pen::seen_of(start.pen, *sight) != 0 {
             return AheadListed { steps: i, held: n };
         }
-        let a = words[at];
-        let b = words[at + 1];
-        let c = words[at + 2];
-        let d = words[at + 3];
-        if !plain::is_data(placing, a, b, c, d) {
+        let Some((a, b, c, d)) = plain::plain_at(words, start.setup.size, at, placing) else {
             return AheadListed { steps: i, held: n };
-        }
-        let x = location::data_of(a);
-        let y = location::data_of(b);
-        let shift = led_to(
-            placing,
-            x,
-            y,
-            location::data_of(c),
-            location::data_of(d),
-            state.beam,
-        );
+        };
+        let shift = led_to(placing, a, b, c, d, state.beam);
         let to = shift.to;
         let off = shift.off;
-        let blanked = is_blanked(placing, x, y);
+        let blanked = is_blanked(placing, a, b);
         let Some(more) = list_trace(vector, blanked, state.beam, to, off, at as u16, n, out) else {
             return AheadListed { steps: i, held: n };
         };
@@ -194,6 +180,7 @@ fn is_tight(held: usize, room: usize) -> bool
 }
 
 // Lists codes ahead.
+// The size is a parameter: list_ahead's match tells it, and here the other modes would need an answer too.
 // Beside list_traces: other room, other words and the cursor; of the loop only its ends are the same.
 #[tactic(auto, using(ground_setup::proofs::Laws::sane, crate::proofs::Laws::on_none, crate::proofs::Laws::on_done, crate::proofs::Laws::on_long, crate::proofs::Laws::on_codes))]
 fn list_codes(
@@ -208,28 +195,23 @@ fn list_codes(
     requires { Writes start.mode letters }
     ensures { ListsAhead (buffer words.now cursor) sights.now start held out.old result out.new }
 {
-    let end = plain::clear_below(words, start.setup.size);
     let mut state = start;
     let mut n = held;
     for (i, sight) in sights.iter().enumerate() {
         let at = state.address;
-        if end <= at || is_tight(n, out.len() / 8) || pen::seen_of(start.pen, *sight) != 0 {
+        let Some((a, b, _, _)) = plain::plain_at(words, start.setup.size, at, false) else {
+            return AheadListed { steps: i, held: n };
+        };
+        if is_tight(n, out.len() / 8) || pen::seen_of(start.pen, *sight) != 0 {
             return AheadListed { steps: i, held: n };
         }
-        let a = words[at];
-        let b = words[at + 1];
-        if !plain::is_data(false, a, b, 0, 0) {
-            return AheadListed { steps: i, held: n };
-        }
-        let x = location::data_of(a);
-        let y = location::data_of(b);
         let c0 = cursor.is_here(words, at);
         let c1 = cursor.is_here(words, at + 1);
         let beam = state.beam;
         n = list_pair(
             letters,
-            x,
-            y,
+            a,
+            b,
             c0,
             c1,
             beam,
@@ -240,7 +222,7 @@ fn list_codes(
         );
         state = State {
             address: at + 2,
-            beam: motion::after_codes(letters, x, y, beam),
+            beam: motion::after_codes(letters, a, b, beam),
             ..state
         };
     }

@@ -26,11 +26,11 @@ pub struct Shift {
     pub off: bool,
 }
 
-// The two sizes of characters.
+// The two sizes of characters, with the numbers that 01 gives them in a drawn item.
 #[derive(Clone, Copy)]
 pub enum CharacterSize {
-    Basic,
-    Large,
+    Basic = 1,
+    Large = 2,
 }
 
 // Raster units from a basic character to the next one.
@@ -50,7 +50,7 @@ fn ten_bits(c: u16) -> u16
 fn absolute_of(high: u8, low: u8) -> u16
     ensures { result ≡ absolute high low }
 {
-    (u16::from(high % 16) * 256 + u16::from(low)) / 4
+    u16::from_be_bytes([high % 16, low]) / 4
 }
 
 // The beam at the absolute coordinates of four bytes.
@@ -143,7 +143,7 @@ fn down_of(size: CharacterSize) -> u16
 fn line_below(y: u16, distance: u16) -> u16
     ensures { result ≡ line_below y distance }
 {
-    if distance <= y { y - distance } else { 1023 }
+    y.checked_sub(distance).unwrap_or(1023)
 }
 
 // The beam at the start of the next line.
@@ -174,6 +174,7 @@ pub fn after_character(size: CharacterSize, beam: Beam) -> Beam
 }
 
 // The first of the two bytes that give a coordinate back.
+// No to_be_bytes: a coordinate is split after its six lowest bits.
 pub fn high_byte(c: u16) -> u8
     ensures { result ≡ high_byte c }
 {

@@ -62,6 +62,7 @@ fn ended(size: Size, count: usize, a: usize, word: u16) -> Read
 }
 
 // Reads from an address on into the room, and stops behind bad parity or, where it seeks the cursor, there.
+// A flag: whether the cursor is sought is half of the read's end, and read_of has it.
 #[tactic(auto, using(crate::proofs::Reading::given_on, crate::proofs::Reading::given_last, crate::proofs::Reading::given_all, crate::proofs::Reading::read_on, crate::proofs::Reading::read_last, crate::proofs::Reading::read_all))]
 pub fn read_out(
     words: &[u16],

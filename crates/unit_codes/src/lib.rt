@@ -3,12 +3,13 @@
 // The contracts cite `specs/Codes.antt`.
 #![tactic(auto)]
 
-ghost use Rattle.std.specs.Prelude.{◌≡◌, ◌<◌, Ok, get_or};
+ghost use Rattle.std.specs.Prelude.{◌≡◌, ◌<◌, Ok};
 ghost use Rattle.unit_codes.specs.Codes.{command_row, row_of, address_in, near_fit, start_fit, count_fit, sent_by};
 
 use ground_refusals::Refusal;
 use ground_setup as setup;
 use ground_setup::Size;
+use ground_words as words;
 
 // The twelve commands, and every code that is none.
 #[derive(Clone, Copy, PartialEq, Eq)]
@@ -84,18 +85,11 @@ pub fn row_of(code: u8) -> CommandRow
     }
 }
 
-// A byte that was sent, 0 where there is none.
-fn sent_at(bytes: &[u8], i: usize) -> u8
-    ensures { result ≡ get_or bytes.now i 0 }
-{
-    bytes.get(i).copied().unwrap_or(0)
-}
-
 // The address that was sent.
 pub fn address_in(bytes: &[u8]) -> usize
     ensures { (result ≡ address_in bytes.now) × (result < 65536) }
 {
-    setup::address_of(sent_at(bytes, 0), sent_at(bytes, 1))
+    setup::address_of(words::get_or(bytes, 0, 0), words::get_or(bytes, 1, 0))
 }
 
 // Whether an address is one of the buffer.

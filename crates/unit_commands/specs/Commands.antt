@@ -84,6 +84,13 @@ rejected_of u room = ends (in_sense u (sensing true false false false)) 0x02 0 r
 abbrev pub reset : DisplayUnit → DisplayUnit
 reset u = in_sense u no_sense
 
+-- the same by the command that comes
+abbrev pub reset_before : Command → Head → Head
+reset_before command.TestIo h = h
+reset_before command.NoOperation h = h
+reset_before command.Sense h = h
+reset_before k h = with_sense h no_sense
+
 -- Sense (000 p.21 and 22, Table 3)
 abbrev pub sensed : DisplayUnit → List ℕ → CommandEnd
 sensed u room = ends (in_sense u (sense_given u.head.sense)) done (four_count room) (sense_in room u.head.state u.head.sense)

@@ -6,8 +6,8 @@
 
 ghost use Rattle.std.specs.Prelude.{◌≡◌, List, ℕ, Ok};
 ghost use Rattle.ground_setup.specs.Setup.{wrap_of};
-ghost use Rattle.unit_head.specs.Head.{no_sense, with_sense, unit};
-ghost use Rattle.unit_commands.specs.Commands.{command_ended, done, busy, waiting_status, waiting_of, rejected_of, sensed, written_by, read_ended, read_by, place_read, inserted_by, removed_by, started_by, stopped_by, done_of, allowed, tried_command, unit_command};
+ghost use Rattle.unit_head.specs.Head.{unit};
+ghost use Rattle.unit_commands.specs.Commands.{command_ended, done, busy, waiting_status, waiting_of, rejected_of, reset_before, sensed, written_by, read_ended, read_by, place_read, inserted_by, removed_by, started_by, stopped_by, done_of, allowed, tried_command, unit_command};
 
 use ground_orders::Mode;
 use ground_refusals::Refusal;
@@ -69,11 +69,14 @@ fn rejected(head: &mut Head) -> Reply
     }
 }
 
-// Resets the sense data.
-fn reset(head: &mut Head)
-    ensures { head.new ≡ with_sense head.old no_sense }
+// Resets the sense data before a command, but for the three that leave it.
+fn reset_before(head: &mut Head, command: Command)
+    ensures { head.new ≡ reset_before command head.old }
 {
-    head.sense = sense::bits(false, false, false, false);
+    match command {
+        Command::TestIo | Command::NoOperation | Command::Sense => {}
+        _ => head.sense = sense::bits(false, false, false, false),
+    }
 }
 
 // A command that is done and gives so many bytes.
@@ -123,6 +126,7 @@ fn read_ended(head: &mut Head, read: Read) -> Reply
 }
 
 // Read Buffer, or Read Cursor, which seeks the cursor.
+// A flag: the two differ in this alone, and read_by has it.
 fn read_buffer(words: &[u16], head: &mut Head, seek: bool, room: &mut [u8]) -> Reply
     ensures { command_ended words.now head.new (Ok result) room.new ≡ read_by (unit words.now head.old) seek room.old }
 {
@@ -178,6 +182,7 @@ fn remove_cursor(words: &mut [u16], head: &mut Head) -> Reply
 }
 
 // Set Buffer Address and Start.
+// Beside set_and_stop: one new state each, and a definition each.
 fn set_and_start(head: &mut Head, address: usize) -> Reply
     ensures { (words room : List ℕ) → command_ended words head.new (Ok result) room ≡ started_by (unit words head.old) address room }
 {
@@ -212,49 +217,23 @@ fn done(
 ) -> Reply
     ensures { command_ended words.new head.new (Ok result) room.new ≡ done_of (unit words.old head.old) command bytes.now room.old }
 {
+    reset_before(head, command);
     match command {
         Command::TestIo => Reply {
             status: 0x00,
             count: 0,
         },
-        Command::WriteBuffer => {
-            reset(head);
-            write_buffer(words, head, bytes)
-        }
-        Command::ReadBuffer => {
-            reset(head);
-            read_buffer(words, head, false, room)
-        }
+        Command::WriteBuffer => write_buffer(words, head, bytes),
+        Command::ReadBuffer => read_buffer(words, head, false, room),
         Command::NoOperation => ended(0),
         Command::Sense => give_sense(head, room),
-        Command::ReadCursor => {
-            reset(head);
-            read_buffer(words, head, head.cursor.is_set(), room)
-        }
-        Command::SetAndStop => {
-            reset(head);
-            set_and_stop(head, codes::address_in(bytes))
-        }
-        Command::Alarm => {
-            reset(head);
-            ended(0)
-        }
-        Command::InsertCursor => {
-            reset(head);
-            insert_cursor(words, head)
-        }
-        Command::ReadXy => {
-            reset(head);
-            read_xy(head, room)
-        }
-        Command::RemoveCursor => {
-            reset(head);
-            remove_cursor(words, head)
-        }
-        Command::SetAndStart => {
-            reset(head);
-            set_and_start(head, codes::address_in(bytes))
-        }
+        Command::ReadCursor => read_buffer(words, head, head.cursor.is_set(), room),
+        Command::SetAndStop => set_and_stop(head, codes::address_in(bytes)),
+        Command::Alarm => ended(0),
+        Command::InsertCursor => insert_cursor(words, head),
+        Command::ReadXy => read_xy(head, room),
+        Command::RemoveCursor => remove_cursor(words, head),
+        Command::SetAndStart => set_and_start(head, codes::address_in(bytes)),
         Command::Invalid => rejected(head),
     }
 }

@@ -2,11 +2,14 @@
 use Prim.Native.Nat.{ℕ, zero, suc, ◌+◌, ◌%◌, ◌<◌, ◌≤◌}
 use native.Mathlib.Omega.{arith}
 use native.Mathlib.Decide.{ℕ_discrete}
-use mathlib.Core.Path.{◌≡◌, refl, ap}
+use mathlib.Core.Path.{◌≡◌, ◌∙◌, refl, ap}
 use mathlib.Core.Bool.{Bool, true, false, cond}
-use mathlib.Core.List.{List}
+use mathlib.Core.List.{List, [], ◌∷◌, ◌++◌, map}
 use lib.ListN.{length, get_or, set}
 use lib.Seq.{get_or-set_same, get_or-set_other}
+use Rattle.std.specs.List.{filter, range_with_len}
+use Rattle.std.proofs.lemmas.List.{length-append}
+use Rattle.std.proofs.lemmas.List.FromFn.{filter_of_map_range_with_len_more}
 use Rattle.ground_location.specs.Location.{cursor_of}
 use Rattle.unit_cursor.specs.Cursor.{cursor_bit, cursors_in, recounted}
 
@@ -26,6 +29,22 @@ pub count_most : (n : ℕ) (words : List ℕ) → cursors_in n words ≤ n
 unfolding cursors_in
 count_most zero words = omega arith
 count_most (suc n) words = omega (arith, count_most n words, bit_most (get_or words n 0))
+
+one_more : (b : Bool) (xs : List ℕ) (x : ℕ) → length (xs ++ cond b (x ∷ []) []) ≡ length xs + cond b 1 0
+one_more true xs x = length-append xs (x ∷ [])
+one_more false xs x = length-append xs []
+
+-- the cursor bits among the first n locations, counted
+pub counted_is : (n : ℕ) (words : List ℕ) → length (filter cursor_of (map (λ i. get_or words i 0) (range_with_len 0 n))) ≡ cursors_in n words
+unfolding cursors_in
+counted_is zero words = refl
+counted_is (suc n) words =
+    let word : ℕ → ℕ = λ i. get_or words i 0 in
+    let more = filter_of_map_range_with_len_more cursor_of word 0 n n (omega arith) in
+    ap (λ k. length (filter cursor_of (map word (range_with_len 0 k)))) {x = suc n} {y = n + 1} (omega arith)
+    ∙ ap length more
+    ∙ one_more (cursor_of (word n)) (filter cursor_of (map word (range_with_len 0 n))) (word n)
+    ∙ ap (λ k. k + cursor_bit (word n)) (counted_is n words)
 
 -- a store behind the locations that are counted
 behind_stays : (n k w : ℕ) (words : List ℕ) → n ≤ k → cursors_in n (set words k w) ≡ cursors_in n words

@@ -50,15 +50,16 @@ fn other(a: usize) -> usize
 
 impl Cursor {
     // The cursor of a buffer's words, counted.
-    #[tactic(auto, unfolding(crate::specs::Cursor::cursors_in))]
     pub fn counted(words: &[u16], size: Size) -> Cursor
         ensures { result ≡ cursors (cursors_in (size_of size) words.now) }
     {
-        let mut count = 0;
-        for i in 0..setup::size_of(size) {
-            count += bit_of(words::word_at(words, i));
+        let count = (0..setup::size_of(size))
+            .map(|i| words::word_at(words, i))
+            .filter(|word| location::cursor_of(*word))
+            .count();
+        Cursor {
+            count: count as u16,
         }
-        Cursor { count }
     }
 
     // Stores a word in a location.

@@ -174,6 +174,7 @@ pub fn character(size: CharacterSize, code: u8, beam: Beam, at: u16) -> Item
 }
 
 // The cursor of a code.
+// Beside `character`: another item, of the same numbers.
 pub fn cursor(size: CharacterSize, code: u8, beam: Beam, at: u16) -> Item
     ensures { result ≡ cursor_at size code beam at }
 {

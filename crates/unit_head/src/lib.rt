@@ -40,6 +40,7 @@ pub struct Sense {
 #[derive(Clone, Copy)]
 pub struct Head {
     pub state: State,
+    // A byte and no Option: 00 is a status byte too, the one that Test I/O and a state line give.
     pub status: u8,
     pub sense: Sense,
     pub cursor: Cursor,
@@ -83,7 +84,7 @@ pub fn with_address(state: State, address: usize) -> State
     State { address, ..state }
 }
 
-// The pen's switch closed or opened.
+// The pen's switch closed or opened. The flag is what the switch then is.
 #[tactic(auto, unfolding(crate::specs::Head::switched_head))]
 pub fn switch_head(head: &mut Head, closed: bool)
     ensures { head.new ≡ switched_head head.old closed }

@@ -61,10 +61,7 @@ pub struct Drawn {
 fn size_number(size: CharacterSize) -> u16
     ensures { result ≡ size_number size }
 {
-    match size {
-        CharacterSize::Basic => 1,
-        CharacterSize::Large => 2,
-    }
+    size as u16
 }
 
 // The eight numbers of an item.
@@ -167,7 +164,7 @@ fn list_item(out: &mut [u16], held: usize, item: Item) -> Option<usize>
 }
 
 // An item is put into the list behind those that it holds, if it is drawn, where it fits.
-// A flag: whether the item is drawn, as its contract has it.
+// A flag beside the item: an Option<Item> was tried, it proves, and vectors and codes are listed slower by a quarter and more.
 #[tactic(auto, using(crate::proofs::Laws::none_listing, crate::proofs::Laws::none_listed))]
 pub fn list_where(out: &mut [u16], held: usize, drawn: bool, item: Item) -> Option<usize>
     ensures { (result ≡ listing (length out.old) held (cond drawn (item ∷ []) [])) × (out.new ≡ listed out.old held (cond drawn (item ∷ []) [])) }

@@ -1,39 +1,13 @@
--- Words that a dump is put into, word by word, and the words of a dump in an array that has room for it.
-use mathlib.Core.Path.{◌≡◌, refl, sym, ap, ◌∙◌}
-use mathlib.Core.List.{List, [], ◌∷◌, ◌++◌}
-use Prim.Native.Nat.{ℕ, zero, suc, ◌-◌, ◌<◌, ◌≤◌, min}
+-- The words of a dump in an array that has room for it.
+use mathlib.Core.Path.{◌≡◌, sym, ap, ◌∙◌}
+use mathlib.Core.List.{List, ◌++◌}
+use Prim.Native.Nat.{ℕ, zero, suc, ◌-◌, ◌≤◌}
 use native.Mathlib.Nat.{zero-add, sub-zero}
 use native.Mathlib.Omega.{arith}
-use lib.ListN.{length, take, drop, set, replicate, length-replicate}
-use lib.Seq.{sets, sets-eq, set_out}
+use lib.ListN.{length, drop, replicate, length-replicate}
+use lib.Seq.{sets-eq}
 use Rattle.ground_location.specs.Location.{fresh_word}
 use Rattle.unit_loading.specs.Loading.{dump_words}
-
--- stores behind the end change nothing
-sets_out : (l : List ℕ) (i : ℕ) (vs : List ℕ) → length l ≤ i → sets l i vs ≡ l
-sets_out l i [] h = refl
-sets_out l i (v ∷ vs) h =
-    ap (λ (x : List ℕ). sets x (suc i) vs) (set_out l i v h) ∙ sets_out l (suc i) vs (omega arith)
-
--- stores behind the first word
-sets_behind : (w : ℕ) (ws : List ℕ) (i : ℕ) (vs : List ℕ) → sets (w ∷ ws) (suc i) vs ≡ w ∷ sets ws i vs
-sets_behind w ws i [] = refl
-sets_behind w ws i (v ∷ vs) = sets_behind w (set ws i v) (suc i) vs
-
--- as many words of the dump as there is room for, and the words behind them
-put_first : (words dump : List ℕ) (n : ℕ) → n ≤ length dump → n ≤ length words → (n < length dump → length words ≤ n)
-    → sets words 0 dump ≡ take n dump ++ drop n words
-put_first [] dump zero h k f = sets_out [] 0 dump (omega arith)
-put_first [] dump (suc n) h k f = absurd (omega arith)
-put_first (w ∷ ws) [] zero h k f = refl
-put_first (w ∷ ws) [] (suc n) h k f = absurd (omega arith)
-put_first (w ∷ ws) (v ∷ vs) zero h k f = let g : length (w ∷ ws) ≤ 0 = f (omega arith) in absurd (omega arith)
-put_first (w ∷ ws) (v ∷ vs) (suc n) h k f =
-    sets_behind v ws 0 vs
-    ∙ ap (λ (l : List ℕ). v ∷ l) (put_first ws vs n (omega arith) (omega arith) (λ q. let g : length (w ∷ ws) ≤ suc n = f (omega arith) in omega arith))
-
-pub put_prefix : (words dump : List ℕ) → sets words 0 dump ≡ take (min (length dump) (length words)) dump ++ drop (min (length dump) (length words)) words
-put_prefix words dump = put_first words dump (min (length dump) (length words)) (grind arith) (grind arith) (grind arith)
 
 zero_less : (n : ℕ) → 0 ≡ 0 - suc n
 zero_less n = omega arith

@@ -4,7 +4,6 @@
 #![tactic(auto)]
 
 ghost use Rattle.std.specs.Prelude.{◌≡◌, length};
-ghost use Rattle.std.proofs.lemmas.List.Edits.{sets};
 ghost use Rattle.unit_head.specs.Head.{unit};
 ghost use Rattle.unit_loading.specs.Loading.{all_proper, load_ended, fresh_loaded, unit_load};
 
@@ -12,6 +11,7 @@ use ground_location as location;
 use ground_refusals::Refusal;
 use ground_setup as setup;
 use ground_setup::Size;
+use ground_words::put_start;
 use unit_cursor::Cursor;
 use unit_head as head;
 use unit_head::Head;
@@ -24,22 +24,13 @@ fn all_proper(dump: &[u16]) -> bool
     dump.iter().all(|word| location::proper(*word))
 }
 
-// Puts a dump into the first words, as far as there is room.
-#[tactic(auto, using(crate::proofs::Dumps::put_prefix))]
-fn put_dump(words: &mut [u16], dump: &[u16])
-    ensures { words.new ≡ sets words.old 0 dump.now }
-{
-    let n = dump.len().min(words.len());
-    words[..n].copy_from_slice(&dump[..n]);
-}
-
 // Makes a unit a fresh one with the words of a dump.
 #[tactic(auto, unfolding(crate::specs::Loading::dump_words))]
 fn load_words(words: &mut [u16], size: Size, dump: &[u16]) -> Head
     ensures { unit words.new result ≡ fresh_loaded (length words.old) size dump.now }
 {
     words.fill(location::FRESH);
-    put_dump(words, dump);
+    put_start(words, dump);
     head::fresh_head(size, Cursor::counted(words, size))
 }
 

@@ -47,7 +47,7 @@ pub fn after_timer(pen: Pen) -> Pen
     }
 }
 
-// The pen after its switch was closed or opened.
+// The pen after its switch was closed or opened. The flag is what the switch then is.
 #[tactic(auto, unfolding(crate::specs::Pen::switched))]
 pub fn after_switch(pen: Pen, closed: bool) -> Pen
     ensures { result ≡ switched pen closed }
@@ -78,6 +78,7 @@ pub fn is_detecting(pen: Pen) -> bool
 }
 
 // What the pen sees of a sight.
+// A number, as C and a script lend it: the parts of what a step draws are counted by it.
 #[tactic(auto, unfolding(crate::specs::Pen::seen_of))]
 pub fn seen_of(pen: Pen, sight: u8) -> u8
     ensures { result ≡ seen_of pen sight }

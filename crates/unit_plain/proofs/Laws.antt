@@ -2,11 +2,11 @@
 -- what they draw. Assumes nothing.
 use Prim.Native.Nat.{ℕ, ◌+◌, ◌<◌}
 use native.Mathlib.Omega.{arith}
-use mathlib.Core.Path.{◌≡◌, refl, ap, ◌∙◌}
+use mathlib.Core.Path.{◌≡◌, refl, sym, ap, ◌∙◌}
 use mathlib.Core.Bool.{Bool, true, false, not, ◌&&◌, false≢true, and-eq-true_iff}
 use mathlib.Core.List.{List}
-use lib.Dec.{eqb}
-use lib.ListN.{get_or}
+use lib.Dec.{eqb, ltb}
+use lib.ListN.{length, get_or}
 use Rattle.ground_location.specs.Location.{data_of, written_of, good_of}
 use Rattle.ground_setup.specs.Setup.{size_of, wrap_of, ahead_of}
 use Rattle.ground_setup.specs.declared.Size.{Size}
@@ -22,12 +22,14 @@ use Rattle.unit_motion.specs.Motion.{motion_of, beam_after, data_motion}
 use Rattle.unit_motion.specs.declared.Motion.{Motion}
 use Rattle.unit_drawing.specs.Drawing.{strokes_of, upto}
 use Rattle.unit_drawing.specs.declared.Hit.{Hit}
-use Rattle.std.proofs.Common.{None, Option}
+use Rattle.std.proofs.Common.{None, Some, Option}
+use Rattle.std.proofs.lemmas.Bool.{ltb-true}
+use Rattle.std.proofs.lemmas.Option.{cond_some}
 use Rattle.unit_cursor.specs.Cursor.{Buffer, cursor_here}
 use Rattle.unit_head.specs.declared.State.{State}
 use Rattle.unit_step.specs.Step.{look_at, beamed, data_to, step_to, hit_by, step_over, step_from, items_drawn}
 use Rattle.unit_step.specs.declared.Stepped.TheVariants.{Goes}
-use Rattle.unit_plain.specs.Plain.{plain_pair, plain_data, span_of}
+use Rattle.unit_plain.specs.Plain.{clear_below, plain_pair, plain_data, span_of, plain_at}
 
 -- what is plain is written, good and no order
 record Plainly (w g h e : Bool) : Type 0 where
@@ -137,3 +139,26 @@ module _ (words : List ℕ) (s : State) (h : s.address + 4 < size_of s.setup.siz
         rw (ahead_same s.setup.size s.address 1 (omega arith), here s.setup.size s.address (omega arith))
         (ap (λ (m : Motion). upto (seen_of s.pen sight) (strokes_of m s.beam (cursor_here b s.address) (cursor_here b (s.address + 1)) s.setup.size s.address))
         (ap (λ (w : List ℕ). motion_of (look_at w s) s.mode s.beam) e ∙ looked.motion))
+
+-- THE DATA THAT STAND PLAIN at an address are clear of the end and plain, and the bytes of what stands there
+pub record PlainHere (words : List ℕ) (size : Size) (at : ℕ) (t : Bool) (a b c d : ℕ) : Type 0 where
+  pub near : at < clear_below size (length words)
+  pub plain : plain_data t (get_or words at 0) (get_or words (at + 1) 0) (get_or words (at + 2) 0) (get_or words (at + 3) 0) ≡ true
+  pub first : a ≡ data_of (get_or words at 0)
+  pub second : b ≡ data_of (get_or words (at + 1) 0)
+  pub third : c ≡ data_of (get_or words (at + 2) 0)
+  pub fourth : d ≡ data_of (get_or words (at + 3) 0)
+
+pub plain_here : (words : List ℕ) (size : Size) (at : ℕ) (t : Bool) (a b c d : ℕ) → plain_at words size at t ≡ Some (a, b, c, d) → PlainHere words size at t a b c d
+plain_here words size at t a b c d e =
+    let here = cond_some _ _ _ e in
+    let both = (and-eq-true_iff (ltb at (clear_below size (length words))) _).0 here.0 in
+    let bytes = sym here.1 in
+    record {
+      near = ltb-true at (clear_below size (length words)) both.0;
+      plain = both.1;
+      first = ap (λ (q : ℕ × ℕ × ℕ × ℕ). q.0) bytes;
+      second = ap (λ (q : ℕ × ℕ × ℕ × ℕ). q.1) bytes;
+      third = ap (λ (q : ℕ × ℕ × ℕ × ℕ). q.2) bytes;
+      fourth = ap (λ (q : ℕ × ℕ × ℕ × ℕ). q.3) bytes;
+    }

@@ -4,7 +4,7 @@
 #![tactic(auto)]
 
 ghost use Rattle.std.specs.Prelude.{◌≡◌, ◌≤◌, length};
-ghost use Rattle.unit_plain.specs.Plain.{clear_below, plain_pair, plain_data, span_of};
+ghost use Rattle.unit_plain.specs.Plain.{clear_below, plain_pair, plain_data, span_of, plain_at};
 
 use ground_location as location;
 use ground_setup as setup;
@@ -33,6 +33,28 @@ pub fn is_data(placing: bool, a: u16, b: u16, c: u16, d: u16) -> bool
     ensures { result ≡ plain_data placing a b c d }
 {
     is_plain(a, b) && (!placing || is_plain(c, d))
+}
+
+// The four bytes that stand at an address: the data of a step that are plain, with more than four words ahead of them.
+pub fn plain_at(words: &[u16], size: Size, at: usize, placing: bool) -> Option<(u8, u8, u8, u8)>
+    ensures { result ≡ plain_at words.now size at placing }
+{
+    if clear_below(words, size) <= at {
+        return None;
+    }
+    let a = words[at];
+    let b = words[at + 1];
+    let c = words[at + 2];
+    let d = words[at + 3];
+    if !is_data(placing, a, b, c, d) {
+        return None;
+    }
+    Some((
+        location::data_of(a),
+        location::data_of(b),
+        location::data_of(c),
+        location::data_of(d),
+    ))
 }
 
 // How many words the data of a step have.

@@ -3,11 +3,12 @@
 // The contracts cite `specs/Sense.antt`.
 #![tactic(auto)]
 
-ghost use Rattle.std.specs.Prelude.{◌≡◌, not, ◌&&◌, ◌||◌, ◌≤◌, ◌<◌, set};
+ghost use Rattle.std.specs.Prelude.{◌≡◌, not, ◌&&◌, ◌||◌, ◌≤◌};
 ghost use Rattle.unit_sense.specs.Sense.{sensing, sense_given, sense_joined, flagged, is_character, sense_zero, sense_one, sense_address, four_in, four_count, sense_in};
 
 use ground_orders::Mode;
 use ground_setup as setup;
+use ground_words as words;
 use unit_head::{Sense, State};
 
 // New sense bits, which no Sense has given.
@@ -88,46 +89,32 @@ fn sense_one(sense: Sense, running: bool, mode: Mode) -> u8
 }
 
 // The address that sense bytes 2 and 3 show.
-fn sense_address(state: State) -> usize
-    ensures { (result ≡ sense_address state) × (result < 0x8000) }
+fn sense_address(state: State) -> u16
+    ensures { result ≡ sense_address state }
 {
     if state.running {
         return 0;
     }
-    setup::wrap(state.setup.size, state.address)
-}
-
-// Puts a byte at a place of the room, where it has one.
-// An index and no get_mut: with that the place behind the room's end was not proved.
-fn put(room: &mut [u8], at: usize, byte: u8)
-    ensures { room.new ≡ set room.old at byte }
-{
-    if at < room.len() {
-        room[at] = byte;
-    }
+    setup::wrap(state.setup.size, state.address) as u16
 }
 
 // Gives as many of four bytes as fit, and answers how many.
 pub fn give(room: &mut [u8], a: u8, b: u8, c: u8, d: u8) -> usize
     ensures { (result ≡ four_count room.old) × (room.new ≡ four_in room.old a b c d) }
 {
-    put(room, 0, a);
-    put(room, 1, b);
-    put(room, 2, c);
-    put(room, 3, d);
-    room.len().min(4)
+    words::put_start(room, &[a, b, c, d])
 }
 
 // Gives as many of the sense bytes as fit, and answers how many.
 pub fn give_sense(room: &mut [u8], state: State, sense: Sense) -> usize
     ensures { (result ≡ four_count room.old) × (room.new ≡ sense_in room.old state sense) }
 {
-    let address = sense_address(state);
+    let [high, low] = sense_address(state).to_be_bytes();
     give(
         room,
         sense_zero(sense, state.running),
         sense_one(sense, state.running, state.mode),
-        (address / 0x100) as u8,
-        (address % 0x100) as u8,
+        high,
+        low,
     )
 }

@@ -5,7 +5,7 @@
 
 ghost use Rattle.std.specs.Prelude.{◌≡◌};
 ghost use Rattle.unit_step.specs.Run.{is_idle};
-ghost use Rattle.unit_step.specs.Step.{state_at, penned, beamed, stopped, struck, data_to, either_by, step_to, hit_by, step_from};
+ghost use Rattle.unit_step.specs.Step.{state_at, penned, beamed, stopped, struck, data_to, step_to, hit_by, step_from};
 
 use ground_look as look;
 use ground_look::{Fault, Look};
@@ -112,18 +112,6 @@ fn data_by(state: State, to: Beam, next: usize, hit: Option<Hit>) -> Stepped
     }
 }
 
-// What a Transfer On No Detect makes of the state.
-// A flag: it is what the pen answers.
-fn either_by(state: State, target: usize, next: usize, goes: bool) -> Stepped
-    ensures { result ≡ either_by state target next goes }
-{
-    if goes {
-        Stepped::Goes(with_pen(state, target, pen::after_transfer(state.pen)))
-    } else {
-        Stepped::Goes(at_place(state, next, Mode::Idle))
-    }
-}
-
 // What a look makes of the state: a hit, or the beam where its data leave it.
 fn step_to(state: State, to: Beam, hit: Option<Hit>, look: Look) -> Stepped
     ensures { result ≡ step_to state to hit look }
@@ -141,7 +129,10 @@ fn step_to(state: State, to: Beam, hit: Option<Hit>, look: Look) -> Stepped
         Look::SetPen(set, next) => Stepped::Goes(with_pen(state, next, pen::after_order(pen, set))),
         Look::End(next) => Stepped::Stops(stopped_at(state, next, Mode::Idle), Stop::EndOrder),
         Look::Jump(target) => Stepped::Goes(at_place(state, target, Mode::Idle)),
-        Look::Either(target, next) => either_by(state, target, next, pen::is_transferring(pen)),
+        Look::Either(target, _) if pen::is_transferring(pen) => {
+            Stepped::Goes(with_pen(state, target, pen::after_transfer(pen)))
+        }
+        Look::Either(_, next) => Stepped::Goes(at_place(state, next, Mode::Idle)),
         Look::Two(.., next) | Look::Four(.., next) => data_by(state, to, next, hit),
     }
 }

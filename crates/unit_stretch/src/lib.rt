@@ -8,7 +8,6 @@ ghost use Rattle.std.specs.Prelude.{◌≡◌, not, ◌&&◌, eqb};
 ghost use Rattle.unit_pen.specs.Pen.{seen_of};
 ghost use Rattle.unit_stretch.specs.Stretch.{Reaches};
 
-use ground_location as location;
 use ground_look as look;
 use unit_head::State;
 use unit_motion as motion;
@@ -33,6 +32,7 @@ fn sees(idle: bool, pen: Pen, sight: u8) -> bool
 }
 
 // The stretch of plain data ahead of a state, over sights.
+// Beside list_traces of unit_ahead: nothing is listed, and what idle mode sees is passed over; of the loop only its ends are the same.
 #[tactic(auto, using(crate::proofs::Laws::covered_none, crate::proofs::Laws::covered_reaches, crate::proofs::Laws::covered_on))]
 pub fn over(words: &[u16], start: State, sights: &[u8]) -> Stretch
     ensures { Reaches words.now sights.now start result }
@@ -41,30 +41,18 @@ pub fn over(words: &[u16], start: State, sights: &[u8]) -> Stretch
     let idle = step::is_idle(mode);
     let placing = look::is_placing(mode);
     let span = plain::span(placing);
-    let end = plain::clear_below(words, start.setup.size);
     let mut state = start;
     for (i, sight) in sights.iter().enumerate() {
         let at = state.address;
-        if end <= at || sees(idle, start.pen, *sight) {
+        let Some((a, b, c, d)) = plain::plain_at(words, start.setup.size, at, placing) else {
             return Stretch { steps: i, state };
-        }
-        let a = words[at];
-        let b = words[at + 1];
-        let c = words[at + 2];
-        let d = words[at + 3];
-        if !plain::is_data(placing, a, b, c, d) {
+        };
+        if sees(idle, start.pen, *sight) {
             return Stretch { steps: i, state };
         }
         state = State {
             address: at + span,
-            beam: motion::moved_by(
-                mode,
-                location::data_of(a),
-                location::data_of(b),
-                location::data_of(c),
-                location::data_of(d),
-                state.beam,
-            ),
+            beam: motion::moved_by(mode, a, b, c, d, state.beam),
             ..state
         };
     }

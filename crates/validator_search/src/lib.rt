@@ -20,8 +20,8 @@ use validator_steps as steps;
 use validator_store as store;
 use validator_walks::{Verdict, Way};
 
-// A fault that is met, and its address. A struct of its own: a Place has a mode there, a Hit a beam.
-#[derive(Clone, Copy)]
+// A fault that is met, and its address, by which it is ordered first. A struct of its own: a Place has a mode there, a Hit a beam.
+#[derive(Clone, Copy, PartialEq, Eq, PartialOrd, Ord)]
 struct Met {
     pub at: usize,
     pub fault: Fault,
@@ -32,7 +32,7 @@ impl Met {
     fn is_before(self, other: Met) -> bool
         ensures { IsTrue result ↔ (self.at < other.at) ⊎ ((self.at ≡ other.at) × (fault_number self.fault ≤ fault_number other.fault)) }
     {
-        self.at < other.at || (self.at == other.at && u8::from(self.fault) <= u8::from(other.fault))
+        self <= other
     }
 }
 

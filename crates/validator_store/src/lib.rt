@@ -10,6 +10,7 @@ ghost use Rattle.validator_store.specs.Store.{bit_of, marked, entry_at, saved, c
 
 use ground_setup as setup;
 use ground_setup::Size;
+use ground_words as words;
 use validator_places as places;
 
 // The bytes that are lent whatever the size.
@@ -41,7 +42,7 @@ pub fn last_of(size: Size) -> usize
 pub fn seen(store: &[u8], p: usize) -> bool
     ensures { IsTrue result ↔ bit_of store.now p ≡ 1 }
 {
-    let byte = store.get(p / 8).copied().unwrap_or(0);
+    let byte = words::get_or(store, p / 8, 0);
     (byte >> (p % 8)) % 2 == 1
 }
 
@@ -56,7 +57,7 @@ pub fn mark(store: &mut [u8], p: usize)
     }
 }
 
-// The entry at byte i.
+// The entry at byte i, its high byte before its middle one: that is quicker, as `entry_at` says. Outside the store it is 0, and no Option.
 #[tactic(auto, unfolding(crate::specs::Store::entry_at))]
 pub fn load(store: &[u8], i: usize) -> usize
     ensures { result ≡ entry_at store.now i }
@@ -64,10 +65,7 @@ pub fn load(store: &[u8], i: usize) -> usize
     if store.len() < 3 || store.len() - 3 < i {
         return 0;
     }
-    let a = usize::from(store[i]);
-    let b = usize::from(store[i + 2]);
-    let c = usize::from(store[i + 1]);
-    a + 256 * b + 65536 * c
+    u32::from_le_bytes([store[i], store[i + 2], store[i + 1], 0]) as usize
 }
 
 // The entry at byte i becomes v.
@@ -78,9 +76,10 @@ pub fn save(store: &mut [u8], i: usize, v: usize)
     if store.len() < 3 || store.len() - 3 < i {
         return;
     }
-    store[i] = (v % 256) as u8;
-    store[i + 1] = (v / 65536 % 256) as u8;
-    store[i + 2] = (v / 256 % 256) as u8;
+    let [low, middle, high, ..] = v.to_le_bytes();
+    store[i] = low;
+    store[i + 1] = high;
+    store[i + 2] = middle;
 }
 
 // The first n bytes, or all where there are fewer, are made zero.

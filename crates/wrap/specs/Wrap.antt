@@ -6,11 +6,10 @@ use Rattle.record_make.specs.Making.{record_of}
 use Rattle.text_input.specs.declared.Came.{Came}
 use Rattle.text_input.specs.declared.Came.TheVariants as came
 use Rattle.text_parse.specs.Parse.{parsed_of}
-use Rattle.text_put.specs.Text.{spelled, put_at, end_of}
+use Rattle.text_put.specs.Text.{spelled}
 use Rattle.wrap.specs.declared.Asked.{Asked}
 use Rattle.wrap.specs.declared.Complaint.{Complaint}
 use Rattle.wrap.specs.declared.Complaint.TheVariants.{Usage, Size, Start, Long, Failed}
-use Rattle.wrap.specs.declared.Lengths.{Lengths}
 use Rattle.wrap.specs.declared.Report.{Report}
 
 -- WHAT THE ARGUMENTS ASK. SIZE and START are decimal numbers of one to five digits, below 65,536: a record has two bytes for each
@@ -44,8 +43,9 @@ ReadWithin room (Ok count) = count < room
 ReadWithin room (Err complaint) = (complaint ≡ Long) ⊎ (complaint ≡ Failed)
 
 -- where the arguments are wrong nothing is read, and what is wrong with them is what is wrong with the input
-abbrev pub ReadFor : Result Asked Complaint → ℕ → Result ℕ Complaint → Type 0
-ReadFor (Ok asked) room found = ReadWithin room found
+abbrev pub ReadFor : Result Asked Complaint → ℕ → Result (Asked × ℕ) Complaint → Type 0
+ReadFor (Ok asked) room (Ok wanted) = (wanted.0 ≡ asked) × (wanted.1 < room)
+ReadFor (Ok asked) room (Err complaint) = (complaint ≡ Long) ⊎ (complaint ≡ Failed)
 ReadFor (Err complaint) room found = found ≡ Err complaint
 
 -- WHAT IS WRITTEN: a text on standard output, and one on standard error
@@ -61,31 +61,18 @@ complaint_line Start = spelled "wrap: START is not a decimal number from 0 to 65
 complaint_line Long = spelled "wrap: the image has more than 65535 bytes\n"
 complaint_line Failed = spelled "wrap: the image cannot be read\n"
 
--- a complaint is told, and nothing else is written
-abbrev pub complained : Complaint → Wrapped
-complained complaint = record { output = []; error = complaint_line complaint }
+-- a complaint is told, and nothing else is written; else the record of the image that stands at the front of the space is written, and
+-- nothing is told
+abbrev pub wrapped_of : Result (Asked × ℕ) Complaint → List ℕ → Wrapped
+wrapped_of (Ok wanted) space = record { output = record_of (take wanted.1 space) wanted.0.size wanted.0.start; error = [] }
+wrapped_of (Err complaint) space = record { output = []; error = complaint_line complaint }
 
--- else the record of the image that stands at the front of the space is written, and nothing is told
-abbrev pub wrapped_by : Asked → Result ℕ Complaint → List ℕ → Wrapped
-wrapped_by asked (Ok count) space = record { output = record_of (take count space) asked.size asked.start; error = [] }
-wrapped_by asked (Err complaint) space = complained complaint
-
-abbrev pub wrapped_of : Result Asked Complaint → Result ℕ Complaint → List ℕ → Wrapped
-wrapped_of (Ok asked) found space = wrapped_by asked found space
-wrapped_of (Err complaint) found space = complained complaint
-
--- both texts put at the front of their buffers, as far as there is room, and where they end
-pub record WrappedPut (wrapped : Wrapped) (out line out' line' : List ℕ) (lengths : Lengths) : Type 0 where
-  pub output_end : lengths.output ≡ end_of out 0 wrapped.output
-  pub output_put : out' ≡ put_at out 0 wrapped.output
-  pub error_end : lengths.error ≡ end_of line 0 wrapped.error
-  pub error_put : line' ≡ put_at line 0 wrapped.error
-
--- ALL THAT THE PROGRAM DOES, from what the arguments ask: it reads what is asked for; the two buffers begin with the two texts; standard
--- error is told as many bytes as its text has, and standard output, where it is open still, was handed as many as its own has
-pub record Wraps (asks : Result Asked Complaint) (space out line : List ℕ) (report : Report) : Type 0 where
+-- ALL THAT THE PROGRAM DOES, from what the arguments ask: it reads what is asked for; the buffer begins with the text for standard output,
+-- and the line is the one for standard error; standard error is told as many bytes as its text has, and standard output, where it is open
+-- still, was handed as many as its own has
+pub record Wraps (asks : Result Asked Complaint) (space out : List ℕ) (report : Report) : Type 0 where
   pub read : ReadFor asks 65536 report.input
-  pub output_made : take (length (wrapped_of asks report.input space).output) out ≡ (wrapped_of asks report.input space).output
-  pub error_made : take (length (wrapped_of asks report.input space).error) line ≡ (wrapped_of asks report.input space).error
-  pub told : report.told ≡ length (wrapped_of asks report.input space).error
-  pub handed : report.output.open ≡ true → report.output.written ≡ length (wrapped_of asks report.input space).output
+  pub output_made : take (length (wrapped_of report.input space).output) out ≡ (wrapped_of report.input space).output
+  pub error_made : report.line.now ≡ (wrapped_of report.input space).error
+  pub told : report.told ≡ length (wrapped_of report.input space).error
+  pub handed : report.output.open ≡ true → report.output.written ≡ length (wrapped_of report.input space).output

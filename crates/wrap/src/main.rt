@@ -4,10 +4,9 @@
 // The contracts cite `specs/Wrap.antt`; what no contract can say is which bytes the system gives and takes.
 #![tactic(auto)]
 
-ghost use Rattle.std.specs.Prelude.{◌-◌, ◌≤◌, min, ◌≡◌, true, length, take};
+ghost use Rattle.std.specs.Prelude.{◌-◌, ◌≤◌, ◌≡◌, length, take};
 ghost use Rattle.text_input.specs.Input.{CameWithin};
-ghost use Rattle.text_put.specs.Text.{put_at, end_of};
-ghost use Rattle.wrap.specs.Wrap.{argument_of, asked_of, read_on, complaint_line, wrapped_of, WrappedPut, ReadWithin, ReadFor, Wraps};
+ghost use Rattle.wrap.specs.Wrap.{argument_of, asked_of, read_on, complaint_line, ReadWithin, ReadFor, Wraps};
 
 use record_make as making;
 use std::env::{Env, FillError};
@@ -19,7 +18,6 @@ use text_output as output;
 use text_output::Output;
 use text_parse as parse;
 use text_parts as parts;
-use text_put as text;
 
 // What is wrong with the arguments or the image.
 #[derive(Clone, Copy)]
@@ -44,17 +42,12 @@ struct Asked {
     start: u16,
 }
 
-// Where the texts for standard output and standard error end in their buffers.
-#[derive(Clone, Copy)]
-struct Lengths {
-    output: usize,
-    error: usize,
-}
-
-// What was read, an image of so many bytes or a complaint, how many bytes were told on standard error, and what became of standard output.
+// What was read, an image of so many bytes with what is asked for it, or a complaint; the line for standard error, how many of its bytes were
+// told, and what became of standard output.
 #[derive(Clone, Copy)]
 struct Report {
-    input: Result<usize, Complaint>,
+    input: Result<(Asked, usize), Complaint>,
+    line: &'static [u8],
     told: usize,
     output: Output,
 }
@@ -79,6 +72,7 @@ fn asked_of(count: usize, size: &[u8], start: &[u8]) -> Result<Asked, Complaint>
 }
 
 // One read into the space, behind the bytes that stand there.
+// A place beside the space: the memory is fixed, and a read gives as many bytes as it likes.
 fn read_behind(stdin: Stdin, space: &mut [u8], end: usize) -> Came
     requires { end ≤ length space.old }
     ensures came_within { CameWithin (length space.old - end) result }
@@ -123,11 +117,12 @@ fn read_asked(
     stdin: Stdin,
     asked: Result<Asked, Complaint>,
     space: &mut [u8],
-) -> Result<usize, Complaint>
+) -> Result<(Asked, usize), Complaint>
     ensures { ReadFor asked (length space.old) result }
 {
-    asked?;
-    read_image(stdin, space)
+    let asked = asked?;
+    let count = read_image(stdin, space)?;
+    Ok((asked, count))
 }
 
 // The line of a complaint.
@@ -143,53 +138,6 @@ fn line_of(complaint: Complaint) -> &'static [u8]
     }
 }
 
-// Puts the line of a complaint, and nothing for standard output.
-fn complain(line: &mut [u8], complaint: Complaint) -> Lengths
-    ensures output_value { (result.output ≡ 0) × (result.error ≡ end_of line.old 0 (complaint_line complaint)) }
-    ensures line_after { line.new ≡ put_at line.old 0 (complaint_line complaint) }
-{
-    let error = text::put(line, 0, line_of(complaint));
-    Lengths { output: 0, error }
-}
-
-// Puts what is to be written of what was asked and read.
-fn put_wrapped(
-    out: &mut [u8],
-    line: &mut [u8],
-    asked: Result<Asked, Complaint>,
-    input: Result<usize, Complaint>,
-    space: &[u8],
-) -> Lengths
-    ensures { WrappedPut (wrapped_of asked input space.now) out.old line.old out.new line.new result }
-{
-    match asked {
-        Err(complaint) => complain(line, complaint),
-        Ok(Asked { size, start }) => match input {
-            Err(complaint) => complain(line, complaint),
-            Ok(count) => Lengths {
-                output: making::put_record(out, parts::first(space, count), size, start),
-                error: 0,
-            },
-        },
-    }
-}
-
-// Tells the first n bytes of the line on standard error, and counts them.
-fn tell_first(line: &[u8], n: usize) -> usize
-    ensures { result ≡ min n (length line.now) }
-{
-    output::tell(parts::first(line, n))
-}
-
-// Writes the first n bytes of the buffer to standard output.
-fn write_first(out: &[u8], n: usize) -> Output
-    ensures { result.open ≡ true → result.written ≡ min n (length out.now) }
-{
-    let mut output = Output::fresh();
-    output.write(out, n);
-    output
-}
-
 // From the arguments, counted with the program's own name, and the input to what is written.
 fn wrap_in(
     stdin: Stdin,
@@ -198,19 +146,33 @@ fn wrap_in(
     start: &[u8],
     space: &mut [u8; 65536],
     out: &mut [u8; 65546],
-    line: &mut [u8; 64],
 ) -> Report
-    ensures { Wraps (asked_of count size.now start.now) space.new out.new line.new result }
+    ensures { Wraps (asked_of count size.now start.now) space.new out.new result }
 {
     let asked = asked_of(count, size, start);
     let input = read_asked(stdin, asked, space);
-    let lengths = put_wrapped(out, line, asked, input, space);
-    let told = tell_first(line, lengths.error);
-    let output = write_first(out, lengths.output);
-    Report {
-        input,
-        told,
-        output,
+    let mut output = Output::fresh();
+    match input {
+        Ok((Asked { size, start }, count)) => {
+            let end = making::put_record(out, parts::first(space, count), size, start);
+            output.write(parts::first(out, end));
+            Report {
+                input,
+                line: b"",
+                told: 0,
+                output,
+            }
+        }
+        Err(complaint) => {
+            let line = line_of(complaint);
+            let told = output::tell(line);
+            Report {
+                input,
+                line,
+                told,
+                output,
+            }
+        }
     }
 }
 
@@ -242,7 +204,6 @@ fn main(rt: HostRuntime) {
     let mut start = [0u8; 16];
     let mut space = [0u8; 65536];
     let mut out = [0u8; 65546];
-    let mut line = [0u8; 64];
     let size_end = put_argument(&rt, 1, &mut size);
     let start_end = put_argument(&rt, 2, &mut start);
     wrap_in(
@@ -252,6 +213,5 @@ fn main(rt: HostRuntime) {
         parts::first(&start, start_end),
         &mut space,
         &mut out,
-        &mut line,
     );
 }

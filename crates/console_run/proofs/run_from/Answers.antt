@@ -3,8 +3,8 @@ use lib.Seq.{take_all}
 use Rattle.console_run.proofs.Turning.{all_drop, ran_all}
 use Rattle.console_run.proofs.run_from.Goals as goal
 
-pub take_turn-requires : goal.take_turn-requires
-take_turn-requires c =
+pub take_turn-turn-requires : goal.take_turn-turn-requires
+take_turn-turn-requires c =
     let sights = c.args.sights.now in
     let whole = take_all (length sights - c.loop-i.i) (drop c.loop-i.i sights) (omega (arith, length-drop c.loop-i.i sights)) in (
       c.loop-i.invariant.0.running,

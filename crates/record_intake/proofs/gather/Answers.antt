@@ -10,7 +10,6 @@ pub returns-in_default : goal.returns-in_default
 returns-in_default c =
     let a = c.args in
     let some : ℕ = a.had + length a.piece.now in
-    let room = c.requires.0 in
     let put = c.head.ensures.kept_after in
     record {
       by_index = λ s o.
@@ -28,7 +27,7 @@ headed : (c : After-keep)
     c.args.kept.now c.head.new.kept c.keep.new.kept c.args.piece.now
 headed c =
     record {
-      room = c.requires.0;
+      room = omega arith;
       sum = refl;
       put = c.head.ensures.kept_after;
       head = sym c.in-Record.is ∙ c.head.ensures.value.0;
@@ -45,7 +44,7 @@ returns-then-some-length-clause-by_index c = λ s o.
 -- a record that is open has more to come
 more_to_come : (c : After-keep) → c.args.had < 6 + c.in-Record.length
 more_to_come c =
-    let s = some_record c.args.had c.args.kept.now c.requires.0 c.requires.1 in
+    let s = some_record c.args.had c.args.kept.now (omega arith) c.requires.0 in
     less _ _ _ _ _ _ _ _ _ (headed c) s.0 s.1
 
 pub overflow_sub-result : goal.overflow_sub-result
@@ -57,7 +56,7 @@ returns-clause-by_index c = λ s o. is_whole _ _ _ _ _ _ _ _ _ (headed (goal.at.
 pub returns-clause-used_in : goal.returns-clause-used_in
 returns-clause-used_in c =
     let at = (goal.at.returns-clause-used_in c).After-keep in
-    let s = some_record c.args.had c.args.kept.now c.requires.0 c.requires.1 in (
+    let s = some_record c.args.had c.args.kept.now (omega arith) c.requires.0 in (
       omega (arith, more_to_come at),
       omega (arith, more_to_come at),
       whole_head s.0 c.args.piece.now _ _ (is_whole _ _ _ _ _ _ _ _ _ (headed at) s.0 s.1 c.if-some-length.false),

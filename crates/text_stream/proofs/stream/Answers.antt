@@ -15,8 +15,8 @@ pub returns-in-End : goal.returns-in-End
 returns-in-End g c =
     let s = g.L.Listener.Stands in
     closed_ends (AllGiven g.L.Listener.Whole) (GivenSoFar s) _ _ _ c.closed.ensures
-    (closes _ s g.L.Listener.Whole c.reads.listener c.reads.output c.reads.count c.close-end.result c.close-end.new.out _
-    c.close-end.ensures c.write.ensures refl c.reads.invariant.1)
+    (closes _ s g.L.Listener.Whole c.reads.listener c.reads.output c.reads.count c.close-end.result c.close-end.new.out _ _
+    c.close-end.ensures c.first.ensures c.write.ensures refl c.reads.invariant.1)
 
 pub returns-in-Failed : goal.returns-in-Failed
 returns-in-Failed g c = fails _ g.L.Listener.Stands c.reads.listener _ c.reads.invariant.0 c.reads.invariant.1
@@ -35,7 +35,7 @@ pub feeds-preserved : goal.feeds-preserved
 feeds-preserved g c =
     let s = g.L.Listener.Stands in
     subst (λ (rest : List ℕ). Between s c.feed-fed.new.self rest c.write-in-feeds.new.self (c.reads.count + c.in-Bytes.n)) (sym c.behind-rest.ensures)
-    (goes_on _ s _ _ _ _ _ c.feed-fed.ensures _ _ _ c.write-in-feeds.ensures c.feeds.invariant)
+    (goes_on _ s _ _ _ _ _ c.feed-fed.ensures _ _ _ _ c.first-in-feeds.ensures c.write-in-feeds.ensures c.feeds.invariant)
 
 pub reads-preserved : goal.reads-preserved
 reads-preserved g c =
@@ -48,8 +48,8 @@ close-end-requires g c = omega (arith, g.met.L.Listener.small)
 pub feed-fed-requires : goal.feed-fed-requires
 feed-fed-requires g c = omega (arith, g.met.L.Listener.small)
 
-pub shared_whole_as_slice-write : goal.shared_whole_as_slice-write
-shared_whole_as_slice-write g c = omega (arith, g.met.L.Listener.small)
+pub shared_whole_as_slice-first : goal.shared_whole_as_slice-first
+shared_whole_as_slice-first g c = omega (arith, g.met.L.Listener.small)
 
-pub shared_whole_as_slice-write-in-feeds : goal.shared_whole_as_slice-write-in-feeds
-shared_whole_as_slice-write-in-feeds g c = omega (arith, g.met.L.Listener.small)
+pub shared_whole_as_slice-first-in-feeds : goal.shared_whole_as_slice-first-in-feeds
+shared_whole_as_slice-first-in-feeds g c = omega (arith, g.met.L.Listener.small)

@@ -1,5 +1,6 @@
 use native.Mathlib.Omega.{arith}
 use mathlib.Core.Path.{sym, ◌∙◌}
+use Rattle.unit_plain.proofs.Laws.{plain_here}
 use Rattle.unit_stretch.proofs.Laws.{covered_none, covered_on}
 use Rattle.unit_stretch.proofs.over.Goals as goal
 
@@ -9,16 +10,7 @@ loop-i-init c = covered_none _ _ _
 pub loop-i-preserved : goal.loop-i-preserved
 loop-i-preserved c =
     let placing = c.is_placing-placing.ensures in
-    let plain = simp placing at (sym c.is_data.ensures ∙ c.if-not-is_data.false) in
+    let stands = plain_here c.args.words.now c.args.start.setup.size c.loop-i.state.address _ _ _ _ _ (simp placing at (sym c.plain_at.ensures ∙ c.in-Some.is)) in
     let unseen = simp c.is_idle-idle.ensures at (sym c.sees.ensures ∙ c.if-sees.false) in
-    simp (
-      c.span-span.ensures.0,
-      placing,
-      c.moved_by.ensures,
-      c.data_of-in-loop-i-3.ensures,
-      c.data_of-in-loop-i-2.ensures,
-      c.data_of-in-loop-i.ensures,
-      c.data_of.ensures,
-    )
-    (covered_on c.args.words.now c.args.sights.now c.args.start c.loop-i.i (omega (arith, c.loop-i-test.true)) c.loop-i.state c.loop-i.invariant
-    (omega (arith, c.if-end-at.false, c.clear_below-end.ensures)) plain unseen)
+    simp (c.span-span.ensures.0, placing, c.moved_by.ensures, stands.first, stands.second, stands.third, stands.fourth)
+    (covered_on c.args.words.now c.args.sights.now c.args.start c.loop-i.i (omega (arith, c.loop-i-test.true)) c.loop-i.state c.loop-i.invariant stands.near stands.plain unseen)

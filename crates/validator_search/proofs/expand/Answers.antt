@@ -1,4 +1,4 @@
--- The four kinds of a step, each by its law.
+-- The four kinds of a step, each by its law. `S` and `room_one` stand in each: lemmas over `Start` made the file longer.
 use Rattle.std.proofs.Common.{ℕ, refl, sym, ap, subst, arith}
 use Rattle.validator_walks.specs.Steps.{Step, Leads, as_step}
 use Rattle.validator_walks.proofs.Numbering.{half_positive}

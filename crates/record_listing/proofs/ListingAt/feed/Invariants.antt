@@ -7,7 +7,7 @@ use Rattle.record_listing.proofs.ListingAt.feed.Given as goal
 
 abbrev pub invariant-loop-used : goal.invariant-loop-used
 invariant-loop-used l =
-    (length l.out ≡ length l.initial.out) × (length l.store ≡ 32768) × Feeds l.initial.self l.initial.kept l.piece l.initial.out 0 (fed l.used l.end) l.self l.kept l.out
+    (length l.out ≡ length l.initial.out) × Feeds l.initial.self l.initial.kept l.piece l.initial.out 0 (fed l.used l.end) l.self l.kept l.out
     × StoreLeft l.initial.store l.store
     × (l.used ≡ 0 → (l.end ≡ 0) × (l.self ≡ l.initial.self))
 

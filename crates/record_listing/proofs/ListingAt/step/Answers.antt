@@ -15,10 +15,10 @@ pub returns-clause-feeds : goal.returns-clause-feeds
 returns-clause-feeds c =
     let a = c.args in
     let used = c.in-Whole.ensures.used_in in
-    feeds_line a.self.now a.at _ _ a.kept.now c.next-found.new.kept a.piece.now _ a.out.now _ a.store.now _ c.requires.1 c.requires.2
+    feeds_line a.self.now a.at _ _ a.kept.now c.next-found.new.kept a.piece.now _ a.out.now _ a.store.now _ c.requires.1 (omega arith)
     used.0 used.1 c.put_line-end.ensures
     (λ s o. subst (λ (first : List ℕ). WholeRecord s a.piece.now first c.in-Whole.used) (sym c.first_found-whole.ensures) (c.in-Whole.ensures.by_index s o))
 
 pub returns-clause-store_left : goal.returns-clause-store_left
 returns-clause-store_left c =
-    (left_line _ _ _ _ _ _ _ _ c.requires.2 c.put_line-end.ensures, c.in-Whole.ensures.used_in.0)
+    (left_line _ _ _ _ _ _ _ _ (omega arith) c.put_line-end.ensures, c.in-Whole.ensures.used_in.0)
