@@ -13,6 +13,7 @@ use console_phrases::{Each, Row};
 use console_replies as replies;
 use ground_setup as setup;
 use ground_setup::Size;
+use ground_words as words;
 use text_put::{HexByte, HexWord, Printed};
 
 // The first bytes of a room.
@@ -32,7 +33,7 @@ impl<'a> Row for Bytes<'a> {
     }
 
     fn part(self, i: usize) -> HexByte {
-        HexByte(self.0.get(i).copied().unwrap_or(0))
+        HexByte(words::get_or(self.0, i, 0))
     }
 }
 
@@ -82,12 +83,7 @@ impl<'a> Row for Words<'a> {
     }
 
     fn part(self, i: usize) -> HexWord {
-        HexWord(
-            self.words
-                .get(self.from.saturating_add(i))
-                .copied()
-                .unwrap_or(0),
-        )
+        HexWord(words::word_at(self.words, self.from.saturating_add(i)))
     }
 }
 

@@ -9,6 +9,7 @@ ghost use Rattle.console_pictures.specs.Pictures.{at_text, left_text, symbol_lin
 
 use console_phrases as phrases;
 use console_phrases::{Each, Paired, Row};
+use ground_words as words;
 use text_put::{Decimal, HexByte, Printed};
 
 // The address that ends an item's line.
@@ -108,7 +109,7 @@ impl<'a> Row for Items<'a> {
 
     fn part(self, i: usize) -> Item {
         let k = 8 * i.min(self.0.len() / 8);
-        let number = |j: usize| self.0.get(k + j).copied().unwrap_or(0);
+        let number = |j: usize| words::word_at(self.0, k + j);
         Item {
             kind: number(0),
             x0: number(1),

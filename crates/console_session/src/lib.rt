@@ -199,7 +199,7 @@ fn show_words(device: &Device, from: usize, count: usize, lines: &mut [u8], at: 
     contents::put_words(lines, at, &device.words, size, from, count)
 }
 
-// Responds a request of a line.
+// Answers a request of a line.
 #[tactic(auto, using(crate::proofs::Fits::request_fits, text_put::proofs::Laws::put_no_text))]
 fn answer_by(device: &mut Device, line: Text, lines: &mut [u8], at: usize) -> Result<usize, Refusal>
     ensures { Responds (said_by device.old line.entry.bytes.now (request_of line.entry.bytes.now)) lines.old at lines.new device.new result }
@@ -233,7 +233,7 @@ fn answer_by(device: &mut Device, line: Text, lines: &mut [u8], at: usize) -> Re
     })
 }
 
-// Responds a line of a script: the unit is left as it makes it, and its answer put into the buffer from a place on.
+// Answers a line of a script: the unit is left as it makes it, and its answer put into the buffer from a place on.
 #[tactic(auto, using(crate::proofs::Laws::said_short, crate::proofs::Laws::said_long))]
 pub fn answer(device: &mut Device, line: &[u8], lines: &mut [u8], at: usize) -> usize
     ensures { Speaks (said_of device.old line.now) lines.old at lines.new device.new result }

@@ -28,7 +28,7 @@ pub struct Image {
 pub fn read_header(bytes: &[u8]) -> Header
     ensures { (result ≡ header_of bytes.now) × HeaderWithin result }
 {
-    if bytes.len() == 0 {
+    if bytes.is_empty() {
         return Header::End;
     }
     if bytes.len() < 6 {

@@ -112,7 +112,7 @@ pub fn stream<const N: usize, L: Listener<N> + Drop>(stdin: Stdin, failed: &[u8]
         count += n;
         let mut rest = parts::first(&buffer, n);
         // A while: a call uses as much as finds room.
-        'feeds: while rest.len() > 0 {
+        'feeds: while !rest.is_empty() {
             let fed = listener.feed(rest, &mut out);
             output.write(parts::first(&out, fed.end));
             rest = parts::behind(rest, fed.used);

@@ -23,7 +23,7 @@ pub fn back(size: Size, at: usize, k: u8) -> usize
     ensures { result ≡ back_of size at k }
 {
     let here = setup::wrap(size, at);
-    let round = setup::size_of(size) - k as usize;
+    let round = setup::size_of(size) - usize::from(k);
     setup::wrap(size, here + round)
 }
 

@@ -174,16 +174,17 @@ pub fn after_character(size: CharacterSize, beam: Beam) -> Beam
 }
 
 // The first of the two bytes that give a coordinate back.
-// No to_be_bytes: a coordinate is split after its six lowest bits.
 pub fn high_byte(c: u16) -> u8
     ensures { result ≡ high_byte c }
 {
-    (ten_bits(c) / 64) as u8
+    let [high, _] = (ten_bits(c) * 4).to_be_bytes();
+    high
 }
 
 // The second of the two bytes that give a coordinate back.
 pub fn low_byte(c: u16) -> u8
     ensures { result ≡ low_byte c }
 {
-    (c % 64 * 4) as u8
+    let [_, low] = (ten_bits(c) * 4).to_be_bytes();
+    low
 }

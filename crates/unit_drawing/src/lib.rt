@@ -2,7 +2,7 @@
 // a call of its own.
 #![tactic(auto)]
 
-ghost use Rattle.std.specs.Prelude.{◌≡◌, Bool, cond, false, eqb, None, Some};
+ghost use Rattle.std.specs.Prelude.{◌≡◌, ℕ, Bool, cond, false, eqb, None, Some};
 ghost use Rattle.unit_items.specs.Items.{items_in, items_of};
 ghost use Rattle.ground_setup.specs.Setup.{wrap_of, ahead_of};
 ghost use Rattle.unit_drawing.specs.Drawing.{shows_cursor, point_at, vector_at, character_at, cursor_at, trace_strokes, has_cursor, code_strokes, codes_strokes, strokes_of, first_strokes, upto, hit, hit_in};
@@ -55,8 +55,8 @@ fn hit_only(sight: u8, at: u16, end: Beam) -> Option<Hit>
 
 // The hit on what coordinates leave, whether they left the screen or not.
 #[tactic(auto, unfolding(crate::specs::Drawing::hit_in))]
-fn hit_trace(trace: Trace, beam: Beam, to: Beam, at: u16, sight: u8) -> Option<Hit>
-    ensures { (off : Bool) → result ≡ hit_in sight (trace_strokes trace beam to off at) }
+fn hit_trace(trace: Trace, to: Beam, at: u16, sight: u8) -> Option<Hit>
+    ensures { (beam : Beam) (off : Bool) → result ≡ hit_in sight (trace_strokes trace beam to off at) }
 {
     match trace {
         Trace::Blanked => None,
@@ -109,7 +109,7 @@ pub fn hit_of(motion: Motion, beam: Beam, size: Size, at: usize, sight: u8) -> O
 {
     match motion {
         Motion::Still => None,
-        Motion::To(_, trace, to) => hit_trace(trace, beam, to, address(size, at), sight),
+        Motion::To(_, trace, to) => hit_trace(trace, to, address(size, at), sight),
         Motion::Codes(letters, a, b) => hit_codes(
             letters,
             a,
@@ -150,8 +150,8 @@ pub fn vector(from: Beam, to: Beam, off: bool, at: u16) -> Item
 
 // What coordinates draw.
 #[tactic(auto, using(crate::proofs::Laws::upto_one), unfolding(crate::specs::Drawing::upto))]
-fn trace_part(trace: Trace, beam: Beam, to: Beam, off: bool, at: u16, sight: u8) -> Part
-    ensures { items_in result ≡ upto sight (trace_strokes trace beam to off at) }
+fn trace_part(trace: Trace, beam: Beam, to: Beam, off: bool, at: u16) -> Part
+    ensures { (sight : ℕ) → items_in result ≡ upto sight (trace_strokes trace beam to off at) }
 {
     match trace {
         Trace::Blanked => Part::Nothing,
@@ -262,14 +262,7 @@ pub fn drawn_of(
             second: Part::Nothing,
         },
         Motion::To(moved, trace, to) => Drawn {
-            first: trace_part(
-                trace,
-                beam,
-                to,
-                motion::is_off(moved),
-                address(size, at),
-                sight,
-            ),
+            first: trace_part(trace, beam, to, motion::is_off(moved), address(size, at)),
             second: Part::Nothing,
         },
         Motion::Codes(letters, a, b) => codes_drawn(

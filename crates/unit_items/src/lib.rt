@@ -57,7 +57,7 @@ pub struct Drawn {
 }
 
 // A character size's number.
-// No From: the number is the list's, and the size unit_beam's.
+// The discriminant itself. No From: `size_number` stands here, above the type.
 fn size_number(size: CharacterSize) -> u16
     ensures { result ≡ size_number size }
 {

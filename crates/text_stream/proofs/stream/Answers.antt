@@ -1,4 +1,4 @@
-use Rattle.std.proofs.Common.{ℕ, ◌+◌, List, length, refl, sym, ap, subst, ◌∙◌, arith, length-drop}
+use Rattle.std.proofs.Common.{ℕ, ◌+◌, List, length, refl, sym, ap, subst, ◌∙◌, arith, rules, tests, length-drop}
 use Rattle.std.proofs.Math.Seq.{length-take-le}
 use Rattle.text_output.specs.declared.Output.{Output}
 use Rattle.text_stream.specs.Listen.{AllGiven, GivenSoFar}
@@ -28,7 +28,7 @@ feeds-init g c =
 
 pub feeds-smaller : goal.feeds-smaller
 feeds-smaller g c =
-    let some = some_used _ g.L.Listener.Stands _ _ _ _ _ c.feed-fed.ensures _ _ c.feeds.invariant (omega arith) c.feeds-test.true in
+    let some = some_used _ g.L.Listener.Stands _ _ _ _ _ c.feed-fed.ensures _ _ c.feeds.invariant (omega arith) (search (rules, tests)) in
     omega (arith, some, ap (length {A = ℕ}) c.behind-rest.ensures, length-drop c.feed-fed.result.used c.feeds.rest.now)
 
 pub feeds-preserved : goal.feeds-preserved
@@ -39,7 +39,7 @@ feeds-preserved g c =
 
 pub reads-preserved : goal.reads-preserved
 reads-preserved g c =
-    (c.if-not-output.false, taken_in _ g.L.Listener.Stands c.feeds.listener c.feeds.rest.now _ _ c.feeds-test.false c.feeds.invariant)
+    (c.if-not-output.false, taken_in _ g.L.Listener.Stands c.feeds.listener c.feeds.rest.now _ _ (search (rules, tests)) c.feeds.invariant)
 
 -- a buffer of N bytes is no larger than a buffer can be
 pub close-end-requires : goal.close-end-requires
