@@ -17,6 +17,7 @@ use unit_buffer as buffer;
 use unit_buffer::Read;
 use unit_codes as codes;
 use unit_codes::{Command, CommandRow};
+use unit_head as head;
 use unit_head::{Head, State};
 use unit_sense as sense;
 
@@ -103,13 +104,14 @@ fn write_buffer(words: &mut [u16], head: &mut Head, bytes: &[u8]) -> Reply
     ensures { (room : List ℕ) → command_ended words.new head.new (Ok result) room ≡ written_by (unit words.old head.old) bytes.now room }
 {
     let state = head.state;
-    head.state.address = buffer::write_in(
+    let address = buffer::write_in(
         words,
         &mut head.cursor,
         state.setup.size,
         state.address,
         bytes,
     );
+    head.state = head::with_address(state, address);
     ended(0)
 }
 
@@ -117,7 +119,7 @@ fn write_buffer(words: &mut [u16], head: &mut Head, bytes: &[u8]) -> Reply
 fn read_ended(head: &mut Head, read: Read) -> Reply
     ensures { (words room : List ℕ) → command_ended words head.new (Ok result) room ≡ read_ended (unit words head.old) read room }
 {
-    head.state.address = read.address;
+    head.state = head::with_address(head.state, read.address);
     head.sense = sense::bits(false, !read.good, false, false);
     Reply {
         status: if read.good { 0x0C } else { 0x0E },
