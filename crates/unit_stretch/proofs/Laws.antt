@@ -104,21 +104,17 @@ module _ (words sights : List ℕ) (s : State) where
           ap (λ (m : Mode). data_motion m (data_of (get_or words x.address 0)) (data_of (get_or words (x.address + 1) 0)) (data_of (get_or words (x.address + 2) 0)) (data_of (get_or words (x.address + 3) 0)) x.beam)
           (idle_is s.mode e)
 
-      missed : (t : Bool) → is_idle s.mode ≡ t → (not t && not (eqb (seen_of s.pen (get_or sights i 0)) 0)) ≡ false
-          → hit_by here motion_here (seen_of s.pen (get_or sights i 0)) ≡ None
-      unfolding strokes_of hit_in
-      missed true e h = rw (idle_motion e) refl
-      missed false e h =
-          let z : seen_of s.pen (get_or sights i 0) ≡ 0 = unseen_is (seen_of s.pen (get_or sights i 0)) h in
-          rw z (unseen (strokes_of motion_here x.beam false false s.setup.size x.address))
+      -- data of idle mode
+      pub covered_passed : is_idle s.mode ≡ true → plain_data false (get_or words x.address 0) (get_or words (x.address + 1) 0) 0 0 ≡ true
+          → Covered words sights s (i + 1) (beamed x (x.address + 2) x.beam)
+      unfolding strokes_of hit_in beam_after
+      covered_passed e p =
+          let motion = idle_motion e in
+          let placing_not : placing s.mode ≡ false = ap placing (idle_is s.mode e) in
+          let k = step_over_lem (rw placing_not p) (rw motion refl) in
+          as_here _ _ (rw (motion, placing_not) at k)
 
-      -- data of which the pen sees nothing
-      pub covered_on : plain_data (placing s.mode) (get_or words x.address 0) (get_or words (x.address + 1) 0) (get_or words (x.address + 2) 0) (get_or words (x.address + 3) 0) ≡ true
-          → (not (is_idle s.mode) && not (eqb (seen_of s.pen (get_or sights i 0)) 0)) ≡ false
-          → Covered words sights s (i + 1) (beamed x (x.address + span_of (placing s.mode)) (beam_after motion_here x.beam))
-      covered_on p h = as_here _ _ (step_over_lem p (missed (is_idle s.mode) refl h))
-
-      -- and where it sees nothing in any mode
+      -- data that move the beam, of which the pen sees nothing
       pub covered_moved : plain_data (placing s.mode) (get_or words x.address 0) (get_or words (x.address + 1) 0) (get_or words (x.address + 2) 0) (get_or words (x.address + 3) 0) ≡ true
           → seen_of s.pen (get_or sights i 0) ≡ 0
           → Covered words sights s (i + 1) (beamed x (x.address + span_of (placing s.mode)) (beam_after motion_here x.beam))
