@@ -43,7 +43,7 @@ first_line_lem =
           size,
           (
             VerdictValues.fault 1 6 3,
-            subst (λ (t : Tried). Judged t (0 ∷ 0 ∷ 0 ∷ 0 ∷ 0 ∷ 0 ∷ []) 0 store left (VerdictValues.fault 1 6 3)) (sym tried) ((Unwritten, refl, all_right.1.0), refl),
+            subst (λ (t : Tried). Judged t (0 ∷ 0 ∷ 0 ∷ 0 ∷ 0 ∷ 0 ∷ []) 0 store left (VerdictValues.fault 1 6 3)) (sym tried) ((Unwritten, refl, all_right.2.0), refl),
             refl,
           ),
         ),

@@ -27,7 +27,10 @@ pub fn put(buffer: &mut [u8], at: usize, text: &[u8]) -> usize
         return buffer.len();
     }
     let n = text.len().min(buffer.len() - at);
-    buffer[at..at + n].copy_from_slice(&text[..n]);
+    // By each byte: a slice's copy would have a static library want one name more of the C library, memmove.
+    for i in 0..n {
+        buffer[at + i] = text[i];
+    }
     at + n
 }
 

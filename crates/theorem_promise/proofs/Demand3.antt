@@ -113,7 +113,7 @@ promise_over image start bytes u q passed lent lent' room es =
     subst (λ (x : DisplayUnit). Never (started_there (unit_command x 0x01 image lent').unit start room) es) (sym (addressed_is u 0 lent q (positive (size_in u))))
     (over image start (there u 0) (there_quiet u 0 q) refl bytes passed lent' room es)
 
-module _ (step : Place → Step Place) where
+module _ {F : Type 0} (step : Place → Step F Place) where
   -- one step more at a walk's end
   on : (p : Place) (ps : List Place) (q r : Place) → Walk step p ps q → Leads (step q) r → Walk step p (ps ++ r ∷ []) r
   on p [] q r w l = (subst (λ (x : Place). Leads (step x) r) w l, refl)

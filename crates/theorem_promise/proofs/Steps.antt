@@ -66,7 +66,7 @@ module _ (image : List ℕ) (su : Setup) (start : ℕ) where
     onward q l = (suc k, (place s.address s.mode, here, l))
 
     goes : (l : Look) → step_of image su (place s.address s.mode) ≡ step_by s.mode l → (q : Place) → Leads (step_by s.mode l) q → Reached (step_of image su) (place start Idle) q
-    goes l e q leads = onward q (subst (λ (t : Step Place). Leads t q) (sym e) leads)
+    goes l e q leads = onward q (subst (λ (t : Step Fault Place). Leads t q) (sym e) leads)
 
     either_kept : (t next : ℕ) → step_of image su (place s.address s.mode) ≡ step_by s.mode (look.Either t next) → (b : Bool) → Kept (either_by s t next b)
     either_kept t next e true = (runs, record { same = λ r. same; reached = λ r. goes (look.Either t next) e (place t Idle) (inl refl) })

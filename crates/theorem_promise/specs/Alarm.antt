@@ -11,7 +11,7 @@ use Rattle.validator_walks.specs.Steps.{Step, Leads, step_of}
 use Rattle.validator_verdict.specs.Verdict.{VerdictValues, tried_of, Judged}
 
 -- from p through the places ps, one after the other, to q; where a Transfer On No Detect stands, the next place is the way chosen
-abbrev pub Walk : (Place → Step Place) → Place → List Place → Place → Type 0
+abbrev pub Walk : {F : Type 0} → (Place → Step F Place) → Place → List Place → Place → Type 0
 Walk step p [] q = q ≡ p
 Walk step p (r ∷ rs) q = Leads (step p) r × Walk step r rs q
 

@@ -31,7 +31,7 @@ slot_across true base cap i j h = inr (omega arith)
 slot_across false base cap i j h = inl (omega arith)
 
 -- nothing grows where all that is led to is marked
-pub unchanged : (P : Plan) (From : ℕ → Type 0) (s : List ℕ) (side : Bool) (rest t : ℕ) → ((q : ℕ) → From q → bit_of s q ≡ 1) → Grown P From s s side rest t t
+pub unchanged : {F : Type 0} (P : Plan F) (From : ℕ → Type 0) (s : List ℕ) (side : Bool) (rest t : ℕ) → ((q : ℕ) → From q → bit_of s q ≡ 1) → Grown P From s s side rest t t
 unchanged P From s side rest t led = record {
   long = refl;
   tail = refl;
@@ -46,14 +46,14 @@ unchanged P From s side rest t led = record {
   twos_more = omega arith;
 }
 
-pub still : (P : Plan) (q : ℕ) (s : List ℕ) (side : Bool) (rest t : ℕ) → bit_of s q ≡ 1 → Visited P q s s side rest t t
+pub still : {F : Type 0} (P : Plan F) (q : ℕ) (s : List ℕ) (side : Bool) (rest t : ℕ) → bit_of s q ≡ 1 → Visited P q s s side rest t t
 still P q s side rest t b = record {
   grown = unchanged P (λ x. x ≡ q) s side rest t (λ x e. ap (bit_of s) e ∙ b);
   one = omega arith;
   twos = λ h. refl;
 }
 
-module _ (P : Plan) (S : Fitted P) (q : ℕ) (s : List ℕ) (side : Bool) (rest t : ℕ)
+module _ {F : Type 0} (P : Plan F) (S : Fitted P) (q : ℕ) (s : List ℕ) (side : Bool) (rest t : ℕ)
     (place : q < P.places) (free : bit_of s q ≡ 0) (long : P.base + 3 * P.cap ≤ length s) (room : rest + t < P.cap) where
   at : ℕ
   at = slot side P.base P.cap t
@@ -147,10 +147,10 @@ module _ (P : Plan) (S : Fitted P) (q : ℕ) (s : List ℕ) (side : Bool) (rest 
   visited = visited_to
 
 -- one growth after another
-module _ (P : Plan) (F G : ℕ → Type 0) (s s₁ s₂ : List ℕ) (side : Bool) (rest t t₁ t₂ : ℕ)
-    (placed : (q : ℕ) → F q → q < P.places)
-    (A : Grown P F s s₁ side rest t t₁) (B : Grown P G s₁ s₂ side rest t₁ t₂) where
-  pub join : Grown P (λ x. F x ⊎ G x) s s₂ side rest t t₂
+module _ {F : Type 0} (P : Plan F) (G H : ℕ → Type 0) (s s₁ s₂ : List ℕ) (side : Bool) (rest t t₁ t₂ : ℕ)
+    (placed : (q : ℕ) → G q → q < P.places)
+    (A : Grown P G s s₁ side rest t t₁) (B : Grown P H s₁ s₂ side rest t₁ t₂) where
+  pub join : Grown P (λ x. G x ⊎ H x) s s₂ side rest t t₂
   join = record {
     long = B.long ∙ A.long;
     tail = B.tail ∙ A.tail;
@@ -159,7 +159,7 @@ module _ (P : Plan) (F G : ℕ → Type 0) (s s₁ s₂ : List ℕ) (side : Bool
     old = λ j h. B.old j (omega (arith, A.more)) ∙ A.old j h;
     new = λ j h l.
         elim (dec_lt j t₁) [
-          | yes u ↦ inl (subst F (sym (B.old j u)) (A.new j h u))
+          | yes u ↦ inl (subst G (sym (B.old j u)) (A.new j h u))
           | no u ↦ inr (B.new j (omega arith) l)
         ];
     keeps = λ q l h. B.keeps q l (A.keeps q l h);
@@ -174,18 +174,18 @@ module _ (P : Plan) (F G : ℕ → Type 0) (s s₁ s₂ : List ℕ) (side : Bool
   }
 
 -- a place gone on from, by the kind of its step
-module _ (P : Plan) (p : ℕ) (s : List ℕ) (side : Bool) (rest t : ℕ) where
+module _ {F : Type 0} (P : Plan F) (p : ℕ) (s : List ℕ) (side : Bool) (rest t : ℕ) where
   pub opened_stops : P.step p ≡ Step.stops → Opened P p s s side rest t t
   opened_stops e = record {
     sound = λ n f. let z : ◌≡◌ {A = ℕ} 0 1 = cc in omega arith;
-    grown = unchanged P (Leads (P.step p)) s side rest t (λ x l. absurd (subst (λ (y : Step ℕ). Leads y x) e l));
+    grown = unchanged P (Leads (P.step p)) s side rest t (λ x l. absurd (subst (λ (y : Step F ℕ). Leads y x) e l));
     room = omega arith;
   }
 
   pub opened_to : (q : ℕ) (s₁ : List ℕ) (t₁ : ℕ) → P.step p ≡ Step.to q → Visited P q s s₁ side rest t t₁ → Opened P p s s₁ side rest t t₁
   opened_to q s₁ t₁ e X = record {
     sound = λ n f. let z : ◌≡◌ {A = ℕ} 0 1 = cc in omega arith;
-    grown = subst (λ (x : Step ℕ). Grown P (Leads x) s s₁ side rest t t₁) (sym e) X.grown;
+    grown = subst (λ (x : Step F ℕ). Grown P (Leads x) s s₁ side rest t t₁) (sym e) X.grown;
     room = omega (arith, X.one, X.grown.twos_more);
   }
 
@@ -195,13 +195,13 @@ module _ (P : Plan) (p : ℕ) (s : List ℕ) (side : Bool) (rest t : ℕ) where
       let l = S.two_lt p a b h e in
       record {
         sound = λ n f. let z : ◌≡◌ {A = ℕ} 0 1 = cc in omega arith;
-        grown = subst (λ (x : Step ℕ). Grown P (Leads x) s s₂ side rest t t₂) (sym e)
+        grown = subst (λ (x : Step F ℕ). Grown P (Leads x) s s₂ side rest t t₂) (sym e)
             (join P (λ x. x ≡ a) (λ x. x ≡ b) s s₁ s₂ side rest t t₁ t₂ (λ q f. omega (arith, l.0, S.twos_le)) X.grown Y.grown);
         room = omega (arith, X.one, Y.one, X.twos l.0, Y.twos l.1);
       }
 
 -- there is room for a visit
-module _ (P : Plan) (S : Fitted P) (p : ℕ) (s : List ℕ) (side : Bool) (rest t : ℕ) (R : Ready P s rest t p) where
+module _ {F : Type 0} (P : Plan F) (S : Fitted P) (p : ℕ) (s : List ℕ) (side : Bool) (rest t : ℕ) (R : Ready P s rest t p) where
   pub room_one : rest + t < P.cap
   room_one = omega (arith, R.room, tally_le s P.twos, S.stacks)
 

@@ -8,32 +8,29 @@ use native.Mathlib.Nat.{not-suc-le-zero, le_of_suc-le-suc, eq-or-lt_of_le}
 use native.Mathlib.Omega.{arith}
 use native.Mathlib.Decide.{ℕ_discrete, dec_lt}
 use lib.ListN.{length, drop}
-use Rattle.ground_look.specs.Look.{fault_number}
-use Rattle.ground_look.specs.declared.Fault.{Fault}
 use Rattle.validator_walks.specs.Steps.{Step, Leads}
 use Rattle.validator_walks.specs.Walks.{Reach, Reached, Counted, Clean, First}
-use Rattle.validator_walks.proofs.Unique.{same_fault, fault_lt}
 use Rattle.validator_store.specs.Store.{bit_of, tally, entry_at, cleared}
 use Rattle.validator_store.proofs.Bits.{bit_of_lt, length_cleared, cleared_bit, cleared_tally, drop_cleared}
 use Rattle.validator_search.specs.Invariant.{slot, Plan, Fitted, Grown, Visited, Ready, Opened, Mid, Next, Closed, Entered, Blamed, none, key_at}
 use Rattle.validator_search.proofs.Growth.{unchanged}
 
-module _ (P : Plan) (S : Fitted P) where
+module _ {F : Type 0} (P : Plan F) (S : Fitted P) where
   -- every place reached is a place
   pub reach_lt : (k p : ℕ) → Reach P.step P.start k p → p < P.places
   reach_lt zero p e = subst (λ (x : ℕ). x < P.places) (sym e) S.start_lt
   reach_lt (suc k) p r = S.led_lt r.0 p (reach_lt k r.0 r.1) r.2
 
-closed_more : (P : Plan) (S : Fitted P) (s s' : List ℕ) (p : ℕ) → p < P.places → ((q : ℕ) → q < P.places → bit_of s q ≡ 1 → bit_of s' q ≡ 1) → Closed P s p → Closed P s' p
+closed_more : {F : Type 0} (P : Plan F) (S : Fitted P) (s s' : List ℕ) (p : ℕ) → p < P.places → ((q : ℕ) → q < P.places → bit_of s q ≡ 1 → bit_of s' q ≡ 1) → Closed P s p → Closed P s' p
 closed_more P S s s' p h keeps c = (c.0, λ q l. keeps q (S.led_lt p q h l) (c.1 q l))
 
-module _ (P : Plan) (S : Fitted P) (From : ℕ → Type 0) (s s' : List ℕ) (side : Bool) (rest t t' k key key' c : ℕ)
+module _ {F : Type 0} (P : Plan F) (S : Fitted P) (From : ℕ → Type 0) (s s' : List ℕ) (side : Bool) (rest t t' k key key' c : ℕ)
     (M : Mid P s side (suc rest) t k key c)
     (G : Grown P From s s' side rest t t')
     (led : (q : ℕ) → From q → Leads (P.step (entry_at s (slot (not side) P.base P.cap rest))) q)
     (fate : Closed P s' (entry_at s (slot (not side) P.base P.cap rest)) ⊎ Blamed P key' (entry_at s (slot (not side) P.base P.cap rest)))
     (lower : key' ≤ key)
-    (best : key' < none → (p : ℕ) × (f : Fault) × Reach P.step P.start k p × (P.step p ≡ Step.faulty f) × (key' ≡ key_at (P.address p) f))
+    (best : key' < none → (p : ℕ) × (f : F) × Reach P.step P.start k p × (P.step p ≡ Step.faulty f) × (key' ≡ key_at (P.address p) (P.number f)))
     (room : 2 * (rest + t') ≤ 2 + tally s' P.twos) where
   turn_next : (j : ℕ) → j < t' → Reach P.step P.start (suc k) (entry_at s' (slot side P.base P.cap j))
   turn_next j h =
@@ -96,9 +93,9 @@ module _ (P : Plan) (S : Fitted P) (From : ℕ → Type 0) (s s' : List ℕ) (si
   }
 
 -- no key is as high as `none`
-module _ (P : Plan) (S : Fitted P) where
+module _ {F : Type 0} (P : Plan F) (S : Fitted P) where
   blameless : (p : ℕ) → p < P.places → Blamed P none p → ⊥
-  blameless p h b = omega (arith, b.2, fault_lt b.0, S.address_lt p h)
+  blameless p h b = omega (arith, b.2, S.number_lt p b.0 h b.1, S.address_lt p h)
 
   module _ (s : List ℕ) (side : Bool) (t k c : ℕ) (M : Mid P s side zero t k none c) where
     -- after a level without a fault, whatever is reached in k steps was gone on from
@@ -171,26 +168,26 @@ module _ (P : Plan) (S : Fitted P) where
         count = subst (Counted (Reached P.step P.start) P.places) (omega (arith, M.count)) (counted P.places (omega arith));
       }
 
-  -- a fault ends the search
-  module _ (s : List ℕ) (side : Bool) (t k key c : ℕ) (M : Mid P s side zero t k key c) (low : key < none) where
-    pub first : (f : Fault) (a : ℕ) → key ≡ key_at a f → First P.step P.start P.address f a k
-    first f a e =
+  -- a fault ends the search, where a fault is known by its number
+  module _ (known : (f g : F) → P.number f ≡ P.number g → f ≡ g) (s : List ℕ) (side : Bool) (t k key c : ℕ) (M : Mid P s side zero t k key c)
+      (low : key < none) where
+    pub first : (f : F) (a : ℕ) → P.number f < 16 → key ≡ key_at a (P.number f) → First P.step P.start P.number P.address f a k
+    first f a h e =
         let w = M.best low in
-        let l = fault_lt w.1 in
-        let u = fault_lt f in
-        let same : fault_number w.1 ≡ fault_number f = omega (arith, w.4) in
+        let l = S.number_lt w.0 w.1 (reach_lt P S k w.0 w.2) w.3 in
+        let same : P.number w.1 ≡ P.number f = omega (arith, w.4) in
         record {
           met = w.0;
           here = w.2;
-          faulty = w.3 ∙ ap Step.faulty (same_fault w.1 f same);
+          faulty = w.3 ∙ ap Step.faulty (known w.1 f same);
           at = omega (arith, w.4);
           earlier = λ j p g lt r x. (M.before j p lt r).0 g x;
           lowest = λ p g r x. ⊎_elim
               (λ d. absurd (d.0 g x))
               (⊎_elim (λ y. absurd (not-suc-le-zero y.1))
               (λ b.
-              let same-g : fault_number b.0 ≡ fault_number g = ap fault_number (one_fault (sym b.1 ∙ x)) in
-              let small = fault_lt g in
+              let same-g : P.number b.0 ≡ P.number g = ap P.number (one_fault (sym b.1 ∙ x)) in
+              let small = S.number_lt p g (reach_lt P S k p r) x in
               elim (dec_lt a (P.address p)) [
                 | yes q ↦ inl q
                 | no q ↦ inr (omega (arith, b.2), omega (arith, b.2))
@@ -198,11 +195,11 @@ module _ (P : Plan) (S : Fitted P) where
               (M.here p r);
         }
       where
-        one_fault : {x y : Fault} → ◌≡◌ {A = Step ℕ} (Step.faulty x) (Step.faulty y) → x ≡ y
+        one_fault : {x y : F} → ◌≡◌ {A = Step F ℕ} (Step.faulty x) (Step.faulty y) → x ≡ y
         one_fault q = cc
 
 -- a turn as the code takes it: p is the last place left of the level
-module _ (P : Plan) (S : Fitted P) (s : List ℕ) (side : Bool) (rest t k key c p : ℕ)
+module _ {F : Type 0} (P : Plan F) (S : Fitted P) (s : List ℕ) (side : Bool) (rest t k key c p : ℕ)
     (M : Mid P s side (suc rest) t k key c) (e : entry_at s (slot (not side) P.base P.cap rest) ≡ p) (low : key ≤ none) where
   here_p : Reach P.step P.start k p
   here_p = subst (Reach P.step P.start k) e (M.cur rest (omega arith))
@@ -223,7 +220,8 @@ module _ (P : Plan) (S : Fitted P) (s : List ℕ) (side : Bool) (rest t k key c 
     tail = O.grown.tail;
   }
 
-  pub blamed : (f : Fault) (key' : ℕ) → P.step p ≡ Step.faulty f → key' ≤ key → key' ≤ key_at (P.address p) f → (key' ≡ key_at (P.address p) f) ⊎ (key' ≡ key)
+  pub blamed : (f : F) (key' : ℕ) → P.step p ≡ Step.faulty f → key' ≤ key → key' ≤ key_at (P.address p) (P.number f)
+      → (key' ≡ key_at (P.address p) (P.number f)) ⊎ (key' ≡ key)
       → Next P s s side rest t k key' c
   blamed f key' e' l₁ l₂ d = record {
     mid = turn P S (λ x. ⊥) s s side rest t t k key key' c M (unchanged P (λ x. ⊥) s side rest t (λ x z. absurd z))
@@ -238,7 +236,7 @@ module _ (P : Plan) (S : Fitted P) (s : List ℕ) (side : Bool) (rest t k key c 
   }
 
 -- the first level: the start, on the low stack
-module _ (P : Plan) (S : Fitted P) (s s₁ : List ℕ) (n : ℕ) (long : P.base + 3 * P.cap ≤ length s)
+module _ {F : Type 0} (P : Plan F) (S : Fitted P) (s s₁ : List ℕ) (n : ℕ) (long : P.base + 3 * P.cap ≤ length s)
     (blank : (q : ℕ) → q < P.places → bit_of s q ≡ 0) (none_yet : tally s P.places ≡ 0) (X : Visited P P.start s s₁ false 0 0 n) where
   begin_listed : (p : ℕ) → bit_of s₁ p ≡ 1 → p < P.places → Entered P s₁ false n p
   begin_listed p b h = ⊎_elim (λ o. absurd (omega (arith, blank p h))) (λ l. l) (X.grown.listed p h b)
@@ -262,7 +260,7 @@ module _ (P : Plan) (S : Fitted P) (s s₁ : List ℕ) (n : ℕ) (long : P.base 
   }
 
 -- the store as it is lent, cleared, and with the start marked
-module _ (P : Plan) (S : Fitted P) (s s₀ s₁ : List ℕ) (n : ℕ) (long : P.base + 3 * P.cap ≤ length s)
+module _ {F : Type 0} (P : Plan F) (S : Fitted P) (s s₀ s₁ : List ℕ) (n : ℕ) (long : P.base + 3 * P.cap ≤ length s)
     (e : s₀ ≡ cleared s (P.base + 3 * P.cap)) (X : Visited P P.start s₀ s₁ false 0 0 n) where
   pub begun : Next P s s₁ true n 0 0 none n
   begun =

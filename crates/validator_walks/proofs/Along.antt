@@ -3,34 +3,30 @@ use mathlib.Core.Path.{◌≡◌, refl, sym, ap, ◌∙◌, subst}
 use mathlib.Core.Logic.{◌⊎◌, inl, inr, ⊎_elim}
 use Prim.Native.Nat.{ℕ, zero, suc, ◌≤◌, ◌<◌}
 use native.Mathlib.Omega.{arith}
-use Rattle.ground_look.specs.Look.{fault_number}
-use Rattle.ground_look.specs.declared.Fault.{Fault}
-use Rattle.validator_walks.specs.declared.Verdict.{Verdict}
-use Rattle.validator_walks.specs.declared.Verdict.TheVariants as verdict
 use Rattle.validator_walks.specs.Steps.{Step, Leads}
-use Rattle.validator_walks.specs.Walks.{Reach, Counted, Clean, First, RightOf}
+use Rattle.validator_walks.specs.Walks.{Answer, Reach, Counted, Clean, First, RightOf}
 
 -- a step with every place named anew
-abbrev pub mapped : {X Y : Type 0} → (X → Y) → Step X → Step Y
+abbrev pub mapped : {F X Y : Type 0} → (X → Y) → Step F X → Step F Y
 mapped f (Step.faulty g) = Step.faulty g
 mapped f Step.stops = Step.stops
 mapped f (Step.to a) = Step.to (f a)
 mapped f (Step.either a b) = Step.either (f a) (f b)
 
-module _ {X Y : Type 0} (f : X → Y) where
-  pub leads_map : (s : Step X) (q : X) → Leads s q → Leads (mapped f s) (f q)
+module _ {F X Y : Type 0} (f : X → Y) where
+  pub leads_map : (s : Step F X) (q : X) → Leads s q → Leads (mapped f s) (f q)
   leads_map (Step.faulty n) q l = absurd l
   leads_map Step.stops q l = absurd l
   leads_map (Step.to a) q l = ap f l
   leads_map (Step.either a b) q l = ⊎_elim (λ e. inl (ap f e)) (λ e. inr (ap f e)) l
 
-  pub leads_back : (s : Step X) (y : Y) → Leads (mapped f s) y → (q : X) × Leads s q × (f q ≡ y)
+  pub leads_back : (s : Step F X) (y : Y) → Leads (mapped f s) y → (q : X) × Leads s q × (f q ≡ y)
   leads_back (Step.faulty n) y l = absurd l
   leads_back Step.stops y l = absurd l
   leads_back (Step.to a) y l = (a, refl, sym l)
   leads_back (Step.either a b) y l = ⊎_elim (λ e. (a, inl refl, sym e)) (λ e. (b, inr refl, sym e)) l
 
-  pub faulty_back : (s : Step X) (n : Fault) → mapped f s ≡ Step.faulty n → s ≡ Step.faulty n
+  pub faulty_back : (s : Step F X) (n : F) → mapped f s ≡ Step.faulty n → s ≡ Step.faulty n
   faulty_back (Step.faulty m) n e = let h : m ≡ n = cc in ap Step.faulty h
   faulty_back Step.stops n e = let z : ◌≡◌ {A = ℕ} 0 1 = cc in absurd (omega arith)
   faulty_back (Step.to a) n e = let z : ◌≡◌ {A = ℕ} 0 1 = cc in absurd (omega arith)
@@ -42,7 +38,7 @@ counted_map to back (Counted.take {n} p x) = Counted.take (to n (omega arith) p)
 counted_map to back (Counted.skip {n} p x) = Counted.skip (λ q. p (back n (omega arith) q)) (counted_map (λ i h. to i (omega arith)) (λ i h. back i (omega arith)) x)
 
 -- the numbers below `places` stand for places, each for another one, and a number steps as its place does
-module _ {X : Type 0} (f : ℕ → X) (places : ℕ) (step_n : ℕ → Step ℕ) (step_x : X → Step X) (start : ℕ)
+module _ {F X : Type 0} (f : ℕ → X) (places : ℕ) (step_n : ℕ → Step F ℕ) (step_x : X → Step F X) (start : ℕ)
     (start_lt : start < places)
     (led_lt : (p q : ℕ) → p < places → Leads (step_n p) q → q < places)
     (same : (p : ℕ) → p < places → step_x (f p) ≡ mapped f (step_n p))
@@ -54,18 +50,18 @@ module _ {X : Type 0} (f : ℕ → X) (places : ℕ) (step_n : ℕ → Step ℕ)
   along : (k p : ℕ) → Reach step_n start k p → Reach step_x (f start) k (f p)
   along zero p e = ap f e
   along (suc k) p r =
-      (f r.0, along k r.0 r.1, subst (λ (s : Step X). Leads s (f p)) (sym (same r.0 (reach_lt k r.0 r.1))) (leads_map f (step_n r.0) p r.2))
+      (f r.0, along k r.0 r.1, subst (λ (s : Step F X). Leads s (f p)) (sym (same r.0 (reach_lt k r.0 r.1))) (leads_map f (step_n r.0) p r.2))
 
   back : (k : ℕ) (x : X) → Reach step_x (f start) k x → (p : ℕ) × Reach step_n start k p × (f p ≡ x)
   back zero x e = (start, refl, sym e)
   back (suc k) x r =
       let b = back k r.0 r.1 in
       let s : step_x r.0 ≡ mapped f (step_n b.0) = ap step_x (sym b.2) ∙ same b.0 (reach_lt k b.0 b.1) in
-      let l = leads_back f (step_n b.0) x (subst (λ (y : Step X). Leads y x) s r.2) in
+      let l = leads_back f (step_n b.0) x (subst (λ (y : Step F X). Leads y x) s r.2) in
       (l.0, (b.0, b.1, l.1), l.2)
 
   -- a fault of a place that is reached is its number's
-  fault_back : (k : ℕ) (x : X) (n : Fault) (r : Reach step_x (f start) k x) → step_x x ≡ Step.faulty n → step_n (back k x r).0 ≡ Step.faulty n
+  fault_back : (k : ℕ) (x : X) (n : F) (r : Reach step_x (f start) k x) → step_x x ≡ Step.faulty n → step_n (back k x r).0 ≡ Step.faulty n
   fault_back k x n r e =
       let b = back k x r in
       faulty_back f (step_n b.0) n (sym (same b.0 (reach_lt k b.0 b.1)) ∙ ap step_x b.2 ∙ e)
@@ -81,19 +77,19 @@ module _ {X : Type 0} (f : ℕ → X) (places : ℕ) (step_n : ℕ → Step ℕ)
         C.count;
   }
 
-  module _ (address_n : ℕ → ℕ) (address_x : X → ℕ) (address : (p : ℕ) → address_x (f p) ≡ address_n p) where
-    pub first_along : (n : Fault) (a k : ℕ) → First step_n start address_n n a k → First step_x (f start) address_x n a k
-    first_along n a k F = record {
-      met = f F.met;
-      here = along k F.met F.here;
-      faulty = same F.met (reach_lt k F.met F.here) ∙ ap (mapped f) F.faulty;
-      at = address F.met ∙ F.at;
-      earlier = λ j x m l r e. F.earlier j (back j x r).0 m l (back j x r).1 (fault_back j x m r e);
+  module _ (number : F → ℕ) (address_n : ℕ → ℕ) (address_x : X → ℕ) (address : (p : ℕ) → address_x (f p) ≡ address_n p) where
+    pub first_along : (n : F) (a k : ℕ) → First step_n start number address_n n a k → First step_x (f start) number address_x n a k
+    first_along n a k G = record {
+      met = f G.met;
+      here = along k G.met G.here;
+      faulty = same G.met (reach_lt k G.met G.here) ∙ ap (mapped f) G.faulty;
+      at = address G.met ∙ G.at;
+      earlier = λ j x m l r e. G.earlier j (back j x r).0 m l (back j x r).1 (fault_back j x m r e);
       lowest = λ x m r e.
-          subst (λ (y : ℕ). (a < y) ⊎ ((a ≡ y) × (fault_number n ≤ fault_number m))) (sym (address (back k x r).0) ∙ ap address_x (back k x r).2)
-          (F.lowest (back k x r).0 m (back k x r).1 (fault_back k x m r e));
+          subst (λ (y : ℕ). (a < y) ⊎ ((a ≡ y) × (number n ≤ number m))) (sym (address (back k x r).0) ∙ ap address_x (back k x r).2)
+          (G.lowest (back k x r).0 m (back k x r).1 (fault_back k x m r e));
     }
 
-    pub right_along : (v : Verdict) → RightOf step_n start (λ i. i) places address_n v → RightOf step_x (f start) f places address_x v
-    right_along (verdict.Passed c) C = clean_along c C
-    right_along (verdict.Fault n a k) F = first_along n a k F
+    pub right_along : (v : Answer F) → RightOf step_n start number (λ i. i) places address_n v → RightOf step_x (f start) number f places address_x v
+    right_along (Answer.passed c) C = clean_along c C
+    right_along (Answer.fault n a k) G = first_along n a k G

@@ -9,20 +9,21 @@ use Rattle.ground_setup.specs.declared.Setup.{Setup}
 use Rattle.ground_orders.specs.declared.Mode.{Mode}
 use Rattle.ground_orders.specs.declared.Mode.TheVariants.{Idle}
 use Rattle.ground_groups.specs.Groups.{image_group}
-use Rattle.ground_look.specs.Look.{look_of}
+use Rattle.ground_look.specs.Look.{look_of, fault_number}
+use Rattle.ground_look.specs.declared.Fault.{Fault}
 use Rattle.ground_look.specs.declared.Look.{Look}
 use Rattle.ground_look.specs.declared.Look.TheVariants as look
 use Rattle.validator_walks.specs.declared.Place.{Place}
 use Rattle.validator_walks.specs.declared.Verdict.{Verdict}
 use Rattle.validator_walks.specs.Places.{place, Proper, half_of, places_of, number_of, address_of, place_of}
 use Rattle.validator_walks.specs.Steps.{Step, Leads, step_by, step_of, way_by, way_of, as_step}
-use Rattle.validator_walks.specs.Walks.{Reach, RightOf, Right}
+use Rattle.validator_walks.specs.Walks.{Reach, RightOf, answer_of, Right}
 use Rattle.validator_walks.proofs.Numbering.{place_proper, number_lt, number_of_place, place_of_number, idle_lt}
 use Rattle.validator_walks.proofs.Along.{mapped, leads_back, right_along}
 use Rattle.validator_walks.proofs.Looks.{look_sound}
 
 -- both ways of a step are idle
-abbrev Known : Step Place → Type 0
+abbrev Known : Step Fault Place → Type 0
 Known (Step.faulty f) = Unit {0}
 Known Step.stops = Unit {0}
 Known (Step.to a) = Unit {0}
@@ -42,14 +43,14 @@ known_by m (look.Two b c a) = tt
 known_by m (look.Four b c d e a) = tt
 
 -- a way is its step with every place as its number
-way_mapped : (size : Size) (s : Step Place) → as_step (way_by size s) ≡ mapped (number_of size) s
+way_mapped : (size : Size) (s : Step Fault Place) → as_step (way_by size s) ≡ mapped (number_of size) s
 way_mapped size (Step.faulty n) = refl
 way_mapped size Step.stops = refl
 way_mapped size (Step.to a) = refl
 way_mapped size (Step.either a b) = refl
 
 -- and its places are those of the numbers
-mapped_back : (size : Size) (s : Step Place) → ((q : Place) → Leads s q → Proper size q) → s ≡ mapped (place_of size) (mapped (number_of size) s)
+mapped_back : (size : Size) (s : Step Fault Place) → ((q : Place) → Leads s q → Proper size q) → s ≡ mapped (place_of size) (mapped (number_of size) s)
 mapped_back size (Step.faulty n) P = refl
 mapped_back size Step.stops P = refl
 mapped_back size (Step.to a) P = ap Step.to (sym (place_of_number size a (P a refl)))
@@ -58,7 +59,7 @@ mapped_back size (Step.either a b) P =
     let y : b ≡ place_of size (number_of size b) = sym (place_of_number size b (P b (inr refl))) in
     ap (λ (z : Place). Step.either z b) x ∙ ap (Step.either (place_of size (number_of size a))) y
 
-either_first : {a b c d : ℕ} → Step.either a b ≡ Step.either c d → (a ≡ c) × (b ≡ d)
+either_first : {F : Type 0} {a b c d : ℕ} → ◌≡◌ {A = Step F ℕ} (Step.either a b) (Step.either c d) → (a ≡ c) × (b ≡ d)
 either_first e = (cc, cc)
 
 module _ (image : List ℕ) (su : Setup) where
@@ -89,11 +90,11 @@ module _ (image : List ℕ) (su : Setup) where
   -- every number that a number leads to is a place's
   pub way_lt : (n q : ℕ) → Leads (as_step (way_of image su n)) q → q < places_of su.size
   way_lt n q l =
-      let b = leads_back (number_of su.size) (step_of image su (place_of su.size n)) q (subst (λ (x : Step ℕ). Leads x q) (way_is n) l) in
+      let b = leads_back (number_of su.size) (step_of image su (place_of su.size n)) q (subst (λ (x : Step Fault ℕ). Leads x q) (way_is n) l) in
       subst (λ (x : ℕ). x < places_of su.size) b.2 (number_lt su.size b.0 (from_number n b.0 b.1))
 
   -- both ways of a step are among the first numbers
-  two_by : (s : Step Place) → Known s → ((q : Place) → Leads s q → Proper su.size q) → (a b : ℕ) → mapped (number_of su.size) s ≡ Step.either a b
+  two_by : (s : Step Fault Place) → Known s → ((q : Place) → Leads s q → Proper su.size q) → (a b : ℕ) → mapped (number_of su.size) s ≡ Step.either a b
       → (a < half_of su.size) × (b < half_of su.size)
   two_by (Step.faulty n) K P a b e = let z : ◌≡◌ {A = ℕ} 0 1 = cc in absurd (omega arith)
   two_by Step.stops K P a b e = let z : ◌≡◌ {A = ℕ} 0 1 = cc in absurd (omega arith)
@@ -111,13 +112,13 @@ module _ (image : List ℕ) (su : Setup) where
 
   -- what is right of the numbers is right of the places
   pub right_of_numbers : (start : ℕ) → Proper su.size (place start Idle) → (v : Verdict)
-      → RightOf (λ n. as_step (way_of image su n)) (number_of su.size (place start Idle)) (λ i. i) (places_of su.size) (address_of su.size) v
+      → RightOf (λ n. as_step (way_of image su n)) (number_of su.size (place start Idle)) fault_number (λ i. i) (places_of su.size) (address_of su.size) (answer_of v)
       → Right image su start v
   right_of_numbers start P v R =
-      subst (λ (p : Place). RightOf (step_of image su) p (place_of su.size) (places_of su.size) (λ q. q.at) v) (place_of_number su.size (place start Idle) P)
+      subst (λ (p : Place). RightOf (step_of image su) p fault_number (place_of su.size) (places_of su.size) (λ q. q.at) (answer_of v)) (place_of_number su.size (place start Idle) P)
       (right_along (place_of su.size) (places_of su.size) (λ n. as_step (way_of image su n)) (step_of image su) (number_of su.size (place start Idle))
       (number_lt su.size (place start Idle) P)
       (λ p q h. way_lt p q)
       (λ p h. way_same p)
       (λ p q h l e. sym (number_of_place su.size p h) ∙ ap (number_of su.size) e ∙ number_of_place su.size q l)
-      (address_of su.size) (λ p. p.at) (λ p. refl) v R)
+      fault_number (address_of su.size) (λ p. p.at) (λ p. refl) (answer_of v) R)

@@ -15,7 +15,7 @@ use Rattle.validator_walks.specs.declared.Verdict.{Verdict}
 use Rattle.validator_walks.specs.declared.Verdict.TheVariants as verdict
 use Rattle.validator_walks.specs.Places.{place, place_of, places_of}
 use Rattle.validator_walks.specs.Steps.{Step, step_of}
-use Rattle.validator_walks.specs.Walks.{Counted, First, RightOf, Right}
+use Rattle.validator_walks.specs.Walks.{Answer, Counted, First, RightOf, answer_of, Right}
 
 -- a fault is known by its number
 fault_of : ℕ → Fault
@@ -46,35 +46,58 @@ counted_unique (Counted.take a x) (Counted.skip b y) = absurd (b a)
 counted_unique (Counted.skip a x) (Counted.take b y) = absurd (a b)
 counted_unique (Counted.skip a x) (Counted.skip b y) = counted_unique x y
 
-module _ {X : Type 0} (step : X → Step X) (start : X) (address : X → ℕ) where
-  not_later : (n : Fault) (a k : ℕ) (m : Fault) (b j : ℕ) → First step start address n a k → First step start address m b j → k < j → ⊥
+module _ {F X : Type 0} (step : X → Step F X) (start : X) (number : F → ℕ) (address : X → ℕ) where
+  not_later : (n : F) (a k : ℕ) (m : F) (b j : ℕ) → First step start number address n a k → First step start number address m b j → k < j → ⊥
   not_later n a k m b j x y l = y.earlier k x.met n l x.here x.faulty
 
-  same_steps : (n : Fault) (a k : ℕ) (m : Fault) (b j : ℕ) → First step start address n a k → First step start address m b j → k ≡ j
+  same_steps : (n : F) (a k : ℕ) (m : F) (b j : ℕ) → First step start number address n a k → First step start number address m b j → k ≡ j
   same_steps n a k m b j x y =
       let u : ¬ (k < j) = not_later n a k m b j x y in
       let v : ¬ (j < k) = not_later m b j n a k y x in
       omega arith
 
-  same_rest : (n : Fault) (a k : ℕ) (m : Fault) (b : ℕ) → First step start address n a k → First step start address m b k → (fault_number n ≡ fault_number m) × (a ≡ b)
+  same_rest : (n : F) (a k : ℕ) (m : F) (b : ℕ) → First step start number address n a k → First step start number address m b k → (number n ≡ number m) × (a ≡ b)
   same_rest n a k m b x y =
       ⊎_elim
       (λ u. ⊎_elim (λ v. omega (arith, x.at, y.at)) (λ v. omega (arith, x.at, y.at)) (y.lowest x.met n x.here x.faulty))
       (λ u. ⊎_elim (λ v. omega (arith, x.at, y.at)) (λ v. omega (arith, x.at, y.at)) (y.lowest x.met n x.here x.faulty))
       (x.lowest y.met m y.here y.faulty)
 
-  module _ (numbered : ℕ → X) (places : ℕ) where
-    pub unique_of : (v w : Verdict) → RightOf step start numbered places address v → RightOf step start numbered places address w → v ≡ w
-    unique_of (verdict.Passed c) (verdict.Passed d) x y = ap verdict.Passed (counted_unique x.count y.count)
-    unique_of (verdict.Passed c) (verdict.Fault m b j) x y = absurd (x.sound j y.met m y.here y.faulty)
-    unique_of (verdict.Fault n a k) (verdict.Passed d) x y = absurd (y.sound k x.met n x.here x.faulty)
-    unique_of (verdict.Fault n a k) (verdict.Fault m b j) x y =
+  -- over any graph whose faults are known by their numbers
+  module _ (known : (f g : F) → number f ≡ number g → f ≡ g) (numbered : ℕ → X) (places : ℕ) where
+    pub unique_of : (v w : Answer F) → RightOf step start number numbered places address v → RightOf step start number numbered places address w → v ≡ w
+    unique_of (Answer.passed c) (Answer.passed d) x y = ap Answer.passed (counted_unique x.count y.count)
+    unique_of (Answer.passed c) (Answer.fault m b j) x y = absurd (x.sound j y.met m y.here y.faulty)
+    unique_of (Answer.fault n a k) (Answer.passed d) x y = absurd (y.sound k x.met n x.here x.faulty)
+    unique_of (Answer.fault n a k) (Answer.fault m b j) x y =
         let s : k ≡ j = same_steps n a k m b j x y in
-        let r = same_rest n a k m b x (subst (First step start address m b) (sym s) y) in
-        let p : n ≡ m = same_fault n m r.0 in
+        let r = same_rest n a k m b x (subst (First step start number address m b) (sym s) y) in
+        let p : n ≡ m = known n m r.0 in
         let q : a ≡ b = r.1 in
         cc
 
+-- where the faults are numbers
+pub unique_numbered : {X : Type 0} (step : X → Step ℕ X) (start : X) (address : X → ℕ) (numbered : ℕ → X) (places : ℕ) (v w : Answer ℕ)
+    → RightOf step start (λ n. n) numbered places address v → RightOf step start (λ n. n) numbered places address w → v ≡ w
+unique_numbered step start address = unique_of step start (λ n. n) address (λ f g e. e)
+
+verdict_of : Answer Fault → Verdict
+verdict_of (Answer.passed c) = verdict.Passed c
+verdict_of (Answer.fault f a k) = verdict.Fault f a k
+
+verdict_of_answer : (v : Verdict) → verdict_of (answer_of v) ≡ v
+unfolding verdict_of
+verdict_of_answer (verdict.Passed c) = refl
+verdict_of_answer (verdict.Fault f a k) = refl
+
+-- where they are those of one step, and the answers verdicts
+pub unique_named : {X : Type 0} (step : X → Step Fault X) (start : X) (address : X → ℕ) (numbered : ℕ → X) (places : ℕ) (v w : Verdict)
+    → RightOf step start fault_number numbered places address (answer_of v) → RightOf step start fault_number numbered places address (answer_of w) → v ≡ w
+unique_named step start address numbered places v w x y =
+    sym (verdict_of_answer v)
+    ∙ ap verdict_of (unique_of step start fault_number address same_fault numbered places (answer_of v) (answer_of w) x y)
+    ∙ verdict_of_answer w
+
 -- two right answers on an image are equal
 pub unique : (image : List ℕ) (su : Setup) (start : ℕ) (v w : Verdict) → Right image su start v → Right image su start w → v ≡ w
-unique image su start = unique_of (step_of image su) (place start Idle) (λ p. p.at) (place_of su.size) (places_of su.size)
+unique image su start = unique_named (step_of image su) (place start Idle) (λ p. p.at) (place_of su.size) (places_of su.size)

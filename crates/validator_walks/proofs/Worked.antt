@@ -25,37 +25,37 @@ use Rattle.validator_walks.specs.Starred.{starred_cases, AllRight}
 use Rattle.validator_walks.proofs.Numbering.{number_of_place}
 
 -- no fault is met where a step goes on or stops
-to_calm : {X : Type 0} (q : X) (n : Fault) → Step.to q ≡ Step.faulty n → ⊥
+to_calm : {F X : Type 0} (q : X) (n : F) → Step.to q ≡ Step.faulty n → ⊥
 to_calm q n c = let z : ◌≡◌ {A = ℕ} 0 1 = cc in omega arith
 
-stops_calm : {X : Type 0} (n : Fault) → ◌≡◌ {A = Step X} Step.stops (Step.faulty n) → ⊥
+stops_calm : {F X : Type 0} (n : F) → ◌≡◌ {A = Step F X} Step.stops (Step.faulty n) → ⊥
 stops_calm n c = let z : ◌≡◌ {A = ℕ} 0 1 = cc in omega arith
 
-either_calm : {X : Type 0} (p q : X) (n : Fault) → Step.either p q ≡ Step.faulty n → ⊥
+either_calm : {F X : Type 0} (p q : X) (n : F) → Step.either p q ≡ Step.faulty n → ⊥
 either_calm p q n c = let z : ◌≡◌ {A = ℕ} 0 1 = cc in omega arith
 
 -- a walk that has one way alone: after k steps it is at p, and no fault was met
-module _ {X : Type 0} (step : X → Step X) (start : X) where
+module _ {F X : Type 0} (step : X → Step F X) (start : X) where
   record Alone (k : ℕ) (p : X) : Type 0 where
     here : Reach step start k p
     only : (q : X) → Reach step start k q → q ≡ p
-    before : (j : ℕ) (q : X) (n : Fault) → j < k → Reach step start j q → step q ≡ Step.faulty n → ⊥
+    before : (j : ℕ) (q : X) (n : F) → j < k → Reach step start j q → step q ≡ Step.faulty n → ⊥
 
   begin : Alone 0 start
   begin = record { here = refl; only = λ q r. r; before = λ j q n h. absurd (not-suc-le-zero h) }
 
   on : (k : ℕ) (p q : X) → step p ≡ Step.to q → Alone k p → Alone (suc k) q
   on k p q e A = record {
-    here = (p, A.here, subst (λ (s : Step X). Leads s q) (sym e) refl);
-    only = λ x r. subst (λ (s : Step X). Leads s x) (ap step (A.only r.0 r.1) ∙ e) r.2;
+    here = (p, A.here, subst (λ (s : Step F X). Leads s q) (sym e) refl);
+    only = λ x r. subst (λ (s : Step F X). Leads s x) (ap step (A.only r.0 r.1) ∙ e) r.2;
     before = λ j x n h r f. ⊎_elim
         (λ s. to_calm q n (sym e ∙ ap step (sym (A.only x (subst (λ (i : ℕ). Reach step start i x) s r))) ∙ f))
         (λ l. A.before j x n l r f)
         (eq-or-lt_of_le (le_of_suc-le-suc h));
   }
 
-  ends_first : (address : X → ℕ) (k : ℕ) (p : X) (n : Fault) → step p ≡ Step.faulty n → Alone k p → First step start address n (address p) k
-  ends_first address k p n e A = record {
+  ends_first : (number : F → ℕ) (address : X → ℕ) (k : ℕ) (p : X) (n : F) → step p ≡ Step.faulty n → Alone k p → First step start number address n (address p) k
+  ends_first number address k p n e A = record {
     met = p;
     here = A.here;
     faulty = e;
@@ -64,8 +64,8 @@ module _ {X : Type 0} (step : X → Step X) (start : X) where
     lowest = λ q m r f. inr (ap address (sym (A.only q r)), same_fault m (sym e ∙ ap step (sym (A.only q r)) ∙ f));
   }
     where
-      same_fault : (m : Fault) → ◌≡◌ {A = Step X} (Step.faulty n) (Step.faulty m) → fault_number n ≤ fault_number m
-      same_fault m c = let s : n ≡ m = cc in omega (arith, ap fault_number s)
+      same_fault : (m : F) → ◌≡◌ {A = Step F X} (Step.faulty n) (Step.faulty m) → number n ≤ number m
+      same_fault m c = let s : n ≡ m = cc in omega (arith, ap number s)
 
   -- what holds of the start and is kept by every step holds wherever a walk is
   stays_in : (In : X → Type 0) → In start → ((p : X) → In p → (q : X) → Leads (step p) q → In q) → (k : ℕ) (p : X) → Reach step start k p → In p
@@ -92,14 +92,14 @@ abbrev idle : ℕ → Place
 idle a = place a Idle
 
 module _ (image : List ℕ) where
-  abbrev from4 : Place → Step Place
+  abbrev from4 : Place → Step Fault Place
   from4 = step_of image in4
 
   -- no walk leaves one place, or two of which the first is met first
   passed_one : from4 (idle 0) ≡ Step.to (idle 0) → Right image in4 0 (verdict.Passed 1)
   passed_one e =
       let inside : (k : ℕ) (p : Place) → Reach from4 (idle 0) k p → p ≡ idle 0 =
-      stays_in from4 (idle 0) (λ p. p ≡ idle 0) refl (λ p s q l. subst (λ (x : Step Place). Leads x q) (ap from4 s ∙ e) l) in
+      stays_in from4 (idle 0) (λ p. p ≡ idle 0) refl (λ p s q l. subst (λ (x : Step Fault Place). Leads x q) (ap from4 s ∙ e) l) in
       record {
         sound = λ k p n r f. to_calm (idle 0) n (sym e ∙ ap from4 (sym (inside k p r)) ∙ f);
         count = counted_past (Counted.take (0, refl) Counted.none) (places_of K4) (omega arith)
@@ -113,7 +113,7 @@ module _ (image : List ℕ) where
     two_kept p i q l =
         ⊎_elim
         (λ s. led q (subst (λ (x : Place). Leads (from4 x) q) s l))
-        (λ s. absurd (subst (λ (x : Step Place). Leads x q) (ap from4 s ∙ stop) l))
+        (λ s. absurd (subst (λ (x : Step Fault Place). Leads x q) (ap from4 s ∙ stop) l))
         i
 
     two_inside : (k : ℕ) (p : Place) → Reach from4 (idle 0) k p → (p ≡ idle 0) ⊎ (p ≡ idle b)
@@ -142,16 +142,16 @@ module _ (size : Size) (image : List ℕ) where
 
   -- a fault at the start, and one after a step
   at_once : (n : Fault) → step_of image su (idle 0) ≡ Step.faulty n → Right image su 0 (verdict.Fault n 0 0)
-  at_once n e = ends_first (step_of image su) (idle 0) (λ p. p.at) 0 (idle 0) n e (begin (step_of image su) (idle 0))
+  at_once n e = ends_first (step_of image su) (idle 0) fault_number (λ p. p.at) 0 (idle 0) n e (begin (step_of image su) (idle 0))
 
   after_one : (p : Place) (n : Fault) → step_of image su (idle 0) ≡ Step.to p → step_of image su p ≡ Step.faulty n → Right image su 0 (verdict.Fault n p.at 1)
   after_one p n a e =
-      ends_first (step_of image su) (idle 0) (λ p. p.at) 1 p n e (on (step_of image su) (idle 0) 0 (idle 0) p a (begin (step_of image su) (idle 0)))
+      ends_first (step_of image su) (idle 0) fault_number (λ p. p.at) 1 p n e (on (step_of image su) (idle 0) 0 (idle 0) p a (begin (step_of image su) (idle 0)))
 
   after_three : (p q r : Place) (n : Fault) → step_of image su (idle 0) ≡ Step.to p → step_of image su p ≡ Step.to q → step_of image su q ≡ Step.to r
       → step_of image su r ≡ Step.faulty n → Right image su 0 (verdict.Fault n r.at 3)
   after_three p q r n a b c e =
-      ends_first (step_of image su) (idle 0) (λ p. p.at) 3 r n e
+      ends_first (step_of image su) (idle 0) fault_number (λ p. p.at) 3 r n e
       (on (step_of image su) (idle 0) 2 q r c
       (on (step_of image su) (idle 0) 1 p q b
       (on (step_of image su) (idle 0) 0 (idle 0) p a (begin (step_of image su) (idle 0)))))
@@ -182,25 +182,35 @@ pub all_right : AllRight starred_cases
 unfolding step_of look_of image_group order_of find_in table
 all_right = (
   at_once K4 [] Unwritten refl,
+  refl,
   (
     after_three K4 (0 ∷ 0 ∷ 0 ∷ 0 ∷ 0 ∷ 0 ∷ []) (idle 2) (idle 4) (idle 6) Unwritten refl refl refl refl,
+    refl,
     (
       after_one K4 (0x2A ∷ 0xC0 ∷ []) (idle 4) Unwritten refl refl,
+      refl,
       (
         passed_one (0x2A ∷ 0xFF ∷ 0x00 ∷ 0x00 ∷ []) refl,
+        refl,
         (
           at_once K4 (0x2A ∷ 0xFF ∷ 0x00 ∷ 0x03 ∷ []) OddTarget refl,
+          refl,
           (
             at_once K4 (0x2A ∷ 0xFF ∷ 0xFF ∷ 0xFF ∷ []) OddTarget refl,
+            refl,
             (
               at_once K4 (0x2A ∷ 0xFF ∷ 0x10 ∷ 0x00 ∷ []) FarTarget refl,
+              refl,
               (
                 after_one K8 (0x2A ∷ 0xFF ∷ 0x10 ∷ 0x00 ∷ []) (idle 4096) Unwritten refl refl,
+                refl,
                 (
                   no_detect_passed,
+                  refl,
                   (
                     after_one K4 (0x2A ∷ 0x02 ∷ 0x00 ∷ 0x00 ∷ 0x2A ∷ 0x81 ∷ []) (place 2 Vector) OrderForY refl refl,
-                    (odd_2_a_passed, tt),
+                    refl,
+                    (odd_2_a_passed, refl, tt),
                   ),
                 ),
               ),

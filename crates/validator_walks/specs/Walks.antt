@@ -1,4 +1,4 @@
--- Walks, and what a right answer on all of them is (01, "The validator").
+-- Walks, and what a right answer on all of them is (01, "The validator"), for faults and places of any kind.
 use Rattle.std.specs.Prelude.{◌≡◌, ◌⊎◌, List, ℕ, zero, suc, ◌≤◌, ◌<◌}
 use Rattle.ground_setup.specs.declared.Setup.{Setup}
 use Rattle.ground_orders.specs.declared.Mode.TheVariants.{Idle}
@@ -15,7 +15,12 @@ pub data Counted (P : ℕ → Type 0) : ℕ → ℕ → Type 0 where
   take : {n c : ℕ} → P n → Counted P n c → Counted P (suc n) (suc c)
   skip : {n c : ℕ} → (P n → ⊥) → Counted P n c → Counted P (suc n) c
 
-module _ {X : Type 0} (step : X → Step X) (start : X) where
+-- what may be answered of all walks: passed, with how many places, or a fault, with an address and how many steps
+pub data Answer (F : Type 0) : Type 0 where
+  passed : ℕ → Answer F
+  fault : F → ℕ → ℕ → Answer F
+
+module _ {F X : Type 0} (step : X → Step F X) (start : X) where
   -- some walk from the start is at p after k steps
   abbrev pub Reach : ℕ → X → Type 0
   Reach zero p = p ≡ start
@@ -31,25 +36,32 @@ module _ {X : Type 0} (step : X → Step X) (start : X) where
     -- counted, one for each place: of an image every place of the buffer has its number (`place_of_number`) and every number is that of
     -- its place alone (`number_of_place`, proofs/Numbering)
     pub record Clean (c : ℕ) : Type 0 where
-      pub sound : (k : ℕ) (p : X) (f : Fault) → Reach k p → step p ≡ Step.faulty f → ⊥
+      pub sound : (k : ℕ) (p : X) (f : F) → Reach k p → step p ≡ Step.faulty f → ⊥
       pub count : Counted (λ i. Reached (numbered i)) places c
 
-  module _ (address : X → ℕ) where
+  -- the faults have numbers, and the places addresses
+  module _ (number : F → ℕ) (address : X → ℕ) where
     -- "fault, with number, address and fewest steps before it": fault f is met at a after k steps, none is met after fewer, and
     -- none after k steps at a lower address, or at a with a lower number
-    pub record First (f : Fault) (a k : ℕ) : Type 0 where
+    pub record First (f : F) (a k : ℕ) : Type 0 where
       pub met : X
       pub here : Reach k met
       pub faulty : step met ≡ Step.faulty f
       pub at : address met ≡ a
-      pub earlier : (j : ℕ) (p : X) (g : Fault) → j < k → Reach j p → step p ≡ Step.faulty g → ⊥
-      pub lowest : (p : X) (g : Fault) → Reach k p → step p ≡ Step.faulty g → (a < address p) ⊎ ((a ≡ address p) × (fault_number f ≤ fault_number g))
+      pub earlier : (j : ℕ) (p : X) (g : F) → j < k → Reach j p → step p ≡ Step.faulty g → ⊥
+      pub lowest : (p : X) (g : F) → Reach k p → step p ≡ Step.faulty g → (a < address p) ⊎ ((a ≡ address p) × (number f ≤ number g))
 
   -- what a right answer is
-  abbrev pub RightOf : (ℕ → X) → ℕ → (X → ℕ) → Verdict → Type 0
-  RightOf numbered places address (verdict.Passed c) = Clean numbered places c
-  RightOf numbered places address (verdict.Fault f a k) = First address f a k
+  abbrev pub RightOf : (F → ℕ) → (ℕ → X) → ℕ → (X → ℕ) → Answer F → Type 0
+  RightOf number numbered places address (Answer.passed c) = Clean numbered places c
+  RightOf number numbered places address (Answer.fault f a k) = First number address f a k
+
+-- a verdict as an answer
+abbrev pub answer_of : Verdict → Answer Fault
+answer_of (verdict.Passed c) = Answer.passed c
+answer_of (verdict.Fault f a k) = Answer.fault f a k
 
 -- a right answer on an image: "A walk starts idle at the start address."
 abbrev pub Right : List ℕ → Setup → ℕ → Verdict → Type 0
-Right image su start = RightOf (step_of image su) (place start Idle) (place_of su.size) (places_of su.size) (λ p. p.at)
+Right image su start v =
+    RightOf (step_of image su) (place start Idle) fault_number (place_of su.size) (places_of su.size) (λ p. p.at) (answer_of v)

@@ -1,5 +1,6 @@
 -- The four kinds of a step, each by its law. `S` and `room_one` stand in each: lemmas over `Start` made the file longer.
 use Rattle.std.proofs.Common.{ℕ, refl, sym, ap, subst, arith}
+use Rattle.ground_look.specs.declared.Fault.{Fault}
 use Rattle.validator_walks.specs.Steps.{Step, Leads, as_step}
 use Rattle.validator_walks.proofs.Numbering.{half_positive}
 use Rattle.validator_search.specs.Invariant.{plan_of}
@@ -11,7 +12,7 @@ pub visit-requires : goal.visit-requires
 visit-requires c =
     let a = c.args in
     let S = fitted a.image.now a.setup 0 (omega (arith, half_positive a.setup.size)) in (
-      S.led_lt a.p c.in-To.q c.requires.place (subst (λ (x : Step ℕ). Leads x c.in-To.q) (ap as_step c.in-To.ensures) refl),
+      S.led_lt a.p c.in-To.q c.requires.place (subst (λ (x : Step Fault ℕ). Leads x c.in-To.q) (ap as_step c.in-To.ensures) refl),
       (c.requires.long, λ z. omega (arith, room_one (plan_of a.image.now a.setup 0) S a.p a.store.now a.side 0 a.t c.requires)),
     )
 

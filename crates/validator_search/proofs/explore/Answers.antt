@@ -2,7 +2,7 @@
 use Rattle.std.proofs.Common.{◌≡◌, ℕ, ◌+◌, ◌≤◌, ◌<◌, Some, not, refl, sym, ap, ◌∙◌, subst, add-one, arith}
 use Rattle.ground_setup.proofs.Laws.{sane}
 use Rattle.validator_walks.specs.Places.{places_of}
-use Rattle.validator_walks.proofs.Unique.{fault_lt}
+use Rattle.validator_walks.proofs.Unique.{same_fault, fault_lt}
 use Rattle.validator_store.proofs.Bits.{tally_le}
 use Rattle.validator_search.specs.Invariant.{plan_of, Mid, Next, none, key_of}
 use Rattle.validator_search.proofs.Plans.{fitted}
@@ -35,9 +35,10 @@ returns-in-Some-clause-right c =
     let r = c.level-found.result in
     let N = left (goal.at.returns-in-Some-clause-right c).After-level-found in
     let e : key_of r.first ≡ key_of (Some c.in-Some.first) = ap key_of c.in-Some.is in
-    let low : key_of r.first < none = omega (arith, N.low, fault_lt c.in-Some.first.fault) in
-    first (plan_of a.image.now a.setup a.start) (fitted a.image.now a.setup a.start c.requires.0) c.level-found.new.store lp.side r.t lp.k (key_of r.first) lp.c
-    N.mid low c.in-Some.first.fault c.in-Some.first.at e
+    let small = fault_lt c.in-Some.first.fault in
+    let low : key_of r.first < none = omega (arith, N.low) in
+    first (plan_of a.image.now a.setup a.start) (fitted a.image.now a.setup a.start c.requires.0) same_fault c.level-found.new.store lp.side r.t lp.k (key_of r.first) lp.c
+    N.mid low c.in-Some.first.fault c.in-Some.first.at (omega arith) e
 
 pub returns-in-Some-clause-tail : goal.returns-in-Some-clause-tail
 returns-in-Some-clause-tail c = (left (goal.at.returns-in-Some-clause-tail c).After-level-found).tail ∙ c.loop-m.invariant.tail

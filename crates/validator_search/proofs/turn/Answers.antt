@@ -18,7 +18,7 @@ use Rattle.validator_search.proofs.Growth.{room_one}
 use Rattle.validator_search.proofs.Levels.{ready, grew, blamed}
 use Rattle.validator_search.proofs.turn.Goals as goal
 
-module _ (P : Plan) (S : Fitted P) (s : List ℕ) (side : Bool) (rest t k key c : ℕ) (M : Mid P s side (rest + 1) t k key c) (low : key ≤ none) where
+module _ {F : Type 0} (P : Plan F) (S : Fitted P) (s : List ℕ) (side : Bool) (rest t k key c : ℕ) (M : Mid P s side (rest + 1) t k key c) (low : key ≤ none) where
   middle : Mid P s side (suc rest) t k key c
   middle = subst (λ (x : ℕ). Mid P s side x t k key c) (add-one rest) M
 
@@ -37,8 +37,8 @@ module _ (P : Plan) (S : Fitted P) (s : List ℕ) (side : Bool) (rest t k key c 
     grown s' t' r = grew P S s side rest t k key c p middle loaded low s' t' r
 
     -- a fault and the key that is kept
-    blame_next : (s' : List ℕ) (f : Fault) (key' : ℕ) → (P.step p ≡ Step.faulty f) × (s' ≡ s)
-        → key' ≤ key → key' ≤ key_at (P.address p) f → (key' ≡ key_at (P.address p) f) ⊎ (key' ≡ key) → Next P s s' side rest t k key' c
+    blame_next : (s' : List ℕ) (f : F) (key' : ℕ) → (P.step p ≡ Step.faulty f) × (s' ≡ s)
+        → key' ≤ key → key' ≤ key_at (P.address p) (P.number f) → (key' ≡ key_at (P.address p) (P.number f)) ⊎ (key' ≡ key) → Next P s s' side rest t k key' c
     blame_next s' f key' b h₁ h₂ d =
         subst (λ (x : List ℕ). Next P s x side rest t k key' c) (sym b.1)
         (blamed P S s side rest t k key c p middle loaded low f key' b.0 h₁ h₂ d)
@@ -88,7 +88,7 @@ module _ (image : List ℕ) (su : Setup) (s : List ℕ) (side : Bool) (rest t ke
     (lies : at ≡ slot (not side) (base_of su.size) (cap_of su.size) rest) (load : p ≡ entry_at s at) where
   weighed : (s' : List ℕ) (f : Fault) (key' : ℕ)
       → ((start r : ℕ) → start < places_of su.size → Ready (plan_of image su start) s r t p → (as_step (way_of image su p) ≡ Step.faulty f) × (s' ≡ s))
-      → key' ≤ key → key' ≤ key_at (address_of su.size p) f → (key' ≡ key_at (address_of su.size p) f) ⊎ (key' ≡ key)
+      → key' ≤ key → key' ≤ key_at (address_of su.size p) (fault_number f) → (key' ≡ key_at (address_of su.size p) (fault_number f)) ⊎ (key' ≡ key)
       → (start k c : ℕ) → start < places_of su.size → Mid (plan_of image su start) s side (rest + 1) t k key c → key ≤ none
       → Next (plan_of image su start) s s' side rest t k key' c
   weighed s' f key' blames h₁ h₂ d start k c h M low =
