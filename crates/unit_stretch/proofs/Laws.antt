@@ -2,9 +2,7 @@
 use Prim.Native.Nat.{ℕ, ◌+◌, ◌<◌}
 use native.Mathlib.Omega.{arith}
 use mathlib.Core.Path.{◌≡◌, refl, sym, ap, subst, ◌∙◌}
-use mathlib.Core.Bool.{Bool, true, false, not, ◌&&◌, false≢true}
-use lib.Dec.{eqb}
-use borrow.Author.Tests.{eqb-true}
+use mathlib.Core.Bool.{true, false, false≢true}
 use mathlib.Core.List.{List}
 use lib.ListN.{length, drop, get_or}
 use Rattle.ground_location.specs.Location.{data_of}
@@ -46,14 +44,6 @@ idle_is mode.IncrementalPoint e = absurd (false≢true e)
 idle_is mode.IncrementalVector e = absurd (false≢true e)
 idle_is mode.Basic e = absurd (false≢true e)
 idle_is mode.Large e = absurd (false≢true e)
-
--- a number that is no other than 0
-unseen_is : (n : ℕ) → not (eqb n 0) ≡ false → n ≡ 0
-unseen_is n h = by (eqb n 0) refl h
-  where
-    by : (t : Bool) → eqb n 0 ≡ t → not t ≡ false → n ≡ 0
-    by true e h = eqb-true n 0 e
-    by false e h = absurd (false≢true (sym h))
 
 module _ (words sights : List ℕ) (s : State) where
   pub covered_none : Covered words sights s 0 s
